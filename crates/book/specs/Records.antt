@@ -1,0 +1,40 @@
+-- The records of a book, by their offsets: "A book is read record by record from its first byte."
+--     byteAt, numberAt         a byte, a number
+--     next, cut                the offset past a record; refusal 2 holds of it
+--     recordsFrom, records     the records from an offset on, up to one that refusal 2 holds of
+-- Assumes nothing.
+use Prim.Native.Nat.{ℕ, zero, suc, _+_, _*_}
+use mathlib.Core.Bool.{Bool, true, false}
+use mathlib.Core.List.{List, [], _∷_}
+use lib.ListN.{length, getD}
+use lib.Dec.{ltb, eqb}
+use Rattle.book.specs.Control.{either}
+use Rattle.book.specs.Kinds.{span}
+
+-- a byte of the book; 0 past its end
+abbrev pub byteAt : List ℕ → ℕ → ℕ
+byteAt s i = getD s i 0
+
+-- "a number is 4 bytes, little-endian"
+unfoldable pub numberAt : List ℕ → ℕ → ℕ
+numberAt s o = byteAt s o + 256 * byteAt s (o + 1) + 65536 * byteAt s (o + 2) + 16777216 * byteAt s (o + 3)
+
+abbrev pub next : List ℕ → ℕ → ℕ
+next s o = o + span (byteAt s o)
+
+-- refusal 2: "A kind is none of the above, or the book ends inside a body."
+unfoldable pub cut : List ℕ → ℕ → Bool
+cut s o = either (eqb (span (byteAt s o)) 0) (ltb (length s) (next s o))
+
+-- at most n records
+unfoldable pub recordsIn : ℕ → List ℕ → ℕ → List ℕ
+recordsIn zero s o = []
+recordsIn (suc n) s o =
+    elim (ltb o (length s)) [ false ↦ [] | true ↦ elim (cut s o) [ true ↦ o ∷ [] | false ↦ o ∷ recordsIn n s (next s o) ] ]
+
+-- a book has no more records than bytes
+unfoldable pub recordsFrom : List ℕ → ℕ → List ℕ
+recordsFrom s o = recordsIn (length s) s o
+
+abbrev pub records : List ℕ → List ℕ
+records s = recordsFrom s 0

@@ -1,0 +1,154 @@
+-- Refusals 1 to 6: "a stage covers the whole book before the next begins, and the place is the offset of the first record at fault".
+--     cutFault, orderFault, countFault, rangeFault, nameFault     the first record at fault by refusals 2, 3, 4, 5 and 6
+--     unreadable                                                  the refusal of a book, if it has one
+-- Assumes nothing.
+use Prim.Native.Nat.{ℕ, _+_, min}
+use mathlib.Core.Bool.{Bool, true, false, not}
+use mathlib.Core.List.{List, [], _∷_}
+use lib.ListN.{length, getD}
+use lib.Dec.{leb, ltb, eqb}
+use Rattle.labels.specs.Labels.{label, trust}
+use Rattle.book.specs.declared.Fault.{Fault}
+use Rattle.book.specs.declared.Fault.the-variants.{Nowhere, At}
+use Rattle.book.specs.declared.Refusal.{Refusal}
+use Rattle.book.specs.declared.Refusal.the-variants.{Passed, Refused}
+use Rattle.book.specs.declared.Tally.{Tally}
+use Rattle.book.specs.declared.Shape.{Shape}
+use Rattle.book.specs.declared.Value.{Value}
+use Rattle.book.specs.declared.Value.the-variants.{Plain, CellName, CodeName}
+use Rattle.book.specs.declared.Declared.{Declared}
+use Rattle.book.specs.declared.Step.{Step}
+use Rattle.book.specs.declared.Step.the-variants.{Put, Name, Code, Add, New, Read, Write, Relabel, Lower, Start, Exec}
+use Rattle.book.specs.Control.{if_then_else_, both, either, first}
+use Rattle.book.specs.Kinds.{limits, isC, isShape, isCell, isBlock, isStep}
+use Rattle.book.specs.Records.{byteAt, records, cut}
+use Rattle.book.specs.Book.{Book, parse, declaredAt, stepAt}
+
+-- 2: "A kind is none of the above, or the book ends inside a body."
+unfoldable pub cutFault : List ℕ → Fault
+cutFault s = first (cut s) (records s)
+
+-- 3: the groups: C 1, shapes 2, cells 3, blocks 4, steps 5
+unfoldable pub group : ℕ → ℕ
+group k =
+    if isC k then 1
+    else if isShape k then 2
+    else if isCell k then 3
+    else if isBlock k then 4
+    else if isStep k then 5
+    else 0
+
+-- A record of group g may stand after one of group p; a step counts as of group 4 there, and p is 0 before the first record.
+-- "First record, once." "Groups stand in this order: C, shapes, cells, blocks. A step before the first block is out of order."
+unfoldable pub inOrder : ℕ → ℕ → Bool
+inOrder p g = if eqb p 0 then eqb g 1 else if eqb g 5 then eqb p 4 else both (ltb 1 g) (leb p g)
+
+-- "The first record is missing or not C, a record is out of order, or no block stands (place: the book's length, or 0 if it is empty)."
+unfoldable pub misplaced : List ℕ → ℕ → List ℕ → Fault
+misplaced s p [] = if eqb p 4 then Nowhere else At (length s)
+misplaced s p (o ∷ os) =
+    elim (inOrder p (group (byteAt s o))) [ true ↦ misplaced s (min (group (byteAt s o)) 4) os | false ↦ At o ]
+
+unfoldable pub orderFault : List ℕ → Fault
+orderFault s = misplaced s 0 (records s)
+
+-- 4: how many shapes, cells and blocks stand so far, and how many steps in the block
+abbrev pub none : Tally
+none = record { shapes = 0; cells = 0; blocks = 0; steps = 0 }
+
+unfoldable pub counted : Tally → ℕ → Tally
+counted n g =
+    if eqb g 2 then record { shapes = n .shapes + 1; cells = n .cells; blocks = n .blocks; steps = n .steps }
+    else if eqb g 3 then record { shapes = n .shapes; cells = n .cells + 1; blocks = n .blocks; steps = n .steps }
+    else if eqb g 4 then record { shapes = n .shapes; cells = n .cells; blocks = n .blocks + 1; steps = 0 }
+    else if eqb g 5 then record { shapes = n .shapes; cells = n .cells; blocks = n .blocks; steps = n .steps + 1 }
+    else n
+
+-- "beyond 32 shapes, 32 cells, 64 blocks or 64 steps in a block"
+unfoldable pub tooMany : Tally → Bool
+tooMany n = either (ltb 32 (n .shapes)) (either (ltb 32 (n .cells)) (either (ltb 64 (n .blocks)) (ltb 64 (n .steps))))
+
+unfoldable pub beyond : List ℕ → Tally → List ℕ → Fault
+beyond s n [] = Nowhere
+beyond s n (o ∷ os) =
+    let m = counted n (group (byteAt s o)) in
+    elim (tooMany m) [ true ↦ At o | false ↦ beyond s m os ]
+
+unfoldable pub countFault : List ℕ → Fault
+countFault s = beyond s none (records s)
+
+-- 5: a field, from the byte at i on, is above its largest value
+unfoldable pub above : List ℕ → ℕ → List ℕ → Bool
+above s i [] = false
+above s i (l ∷ ls) = either (ltb l (byteAt s i)) (above s (i + 1) ls)
+
+unfoldable pub outOfRange : List ℕ → ℕ → Bool
+outOfRange s o = above s (o + 1) (limits (byteAt s o))
+
+unfoldable pub rangeFault : List ℕ → Fault
+rangeFault s = first (outOfRange s) (records s)
+
+-- 6: what the book K has
+abbrev pub noShape : Shape
+noShape = record { kind = 0; bound = label 0; content = 0; trust = trust 0 }
+
+module _ (K : Book) where
+  abbrev pub hasCellShape : ℕ → Bool
+  hasCellShape i = eqb (getD (K .shapes) i noShape .kind) 18
+
+  abbrev pub hasCell : ℕ → Bool
+  hasCell i = ltb i (length (K .cells))
+
+  abbrev pub hasBlock : ℕ → Bool
+  hasBlock i = ltb i (length (K .blocks))
+
+  -- "a declared cell or block number does not exist"
+  unfoldable pub valueNamed : Value → Bool
+  valueNamed (Plain n) = true
+  valueNamed (CellName n) = hasCell n
+  valueNamed (CodeName n) = hasBlock n
+
+  unfoldable pub stepNamed : Step → Bool
+  stepNamed (Put r n) = true
+  stepNamed (Name r k) = hasCell k
+  stepNamed (Code r b) = hasBlock b
+  stepNamed (Add r a b) = true
+  stepNamed (New r i a) = hasCellShape i
+  stepNamed (Read r w) = true
+  stepNamed (Write w a) = true
+  stepNamed (Relabel w l) = true
+  stepNamed (Lower l) = true
+  stepNamed (Start b) = hasBlock b
+  stepNamed (Exec w) = true
+
+  -- the record at o, before which n shapes stand: "A content shape is not lower-numbered than its cell shape, a cell or new names no
+  -- cell shape, or a declared cell or block number does not exist."
+  unfoldable pub dangling : List ℕ → ℕ → ℕ → Bool
+  dangling s n o =
+      if eqb (byteAt s o) 18 then leb n (byteAt s (o + 1))
+      else if isCell (byteAt s o) then not (both (hasCellShape (declaredAt s o .shape)) (valueNamed (declaredAt s o .value)))
+      else if isStep (byteAt s o) then not (stepNamed (stepAt s o))
+      else false
+
+  unfoldable pub dangles : List ℕ → ℕ → List ℕ → Fault
+  dangles s n [] = Nowhere
+  dangles s n (o ∷ os) =
+      elim (dangling s n o) [ true ↦ At o | false ↦ dangles s (if isShape (byteAt s o) then n + 1 else n) os ]
+
+unfoldable pub nameFault : List ℕ → Fault
+nameFault s = dangles (parse s) s 0 (records s)
+
+-- the number of a refusal, where a record is at fault
+unfoldable pub orRefuse : ℕ → Fault → Refusal → Refusal
+orRefuse n Nowhere r = r
+orRefuse n (At o) r = Refused n o
+
+-- 1: "The book is longer than 32,768 bytes." Place 0.
+unfoldable pub unreadable : List ℕ → Refusal
+unreadable s =
+    if ltb 32768 (length s) then Refused 1 0
+    else orRefuse 2 (cutFault s)
+    (orRefuse 3 (orderFault s)
+    (orRefuse 4 (countFault s)
+    (orRefuse 5 (rangeFault s)
+    (orRefuse 6 (nameFault s) Passed))))

@@ -1,0 +1,49 @@
+-- A block's stretch of the book, and what stands at an offset.
+--     foundBlock, stretch        "Asked for a block, a call hands back that block's stretch of the lent book, steps only."
+--     stepFound, cellFound       the step, the declared cell that stands at an offset, if one does
+-- Assumes nothing.
+use Prim.Native.Nat.{ℕ, _+_}
+use mathlib.Core.Bool.{Bool, true, false, not}
+use mathlib.Core.List.{List}
+use lib.ListN.{length, getD, take, drop}
+use lib.Dec.{ltb}
+use Rattle.book.specs.declared.Refusal.{Refusal}
+use Rattle.book.specs.declared.Refusal.the-variants.{Passed, Refused}
+use Rattle.book.specs.declared.Found.{Found}
+use Rattle.book.specs.declared.StepAt.{StepAt}
+use Rattle.book.specs.declared.StepAt.the-variants.{NoStep, StepThere}
+use Rattle.book.specs.declared.CellAt.{CellAt}
+use Rattle.book.specs.declared.CellAt.the-variants.{NoCell, CellThere}
+use Rattle.book.specs.Control.{if_then_else_, both}
+use Rattle.book.specs.Kinds.{isCell, isStep}
+use Rattle.book.specs.Records.{byteAt, next, cut}
+use Rattle.book.specs.Book.{blocksOf, stepAt, declaredAt}
+use Rattle.book.specs.Refusals.{unreadable}
+use Rattle.book.specs.Outline.{blockEntry}
+
+-- a refusal, with an empty stretch
+abbrev pub lost : ℕ → ℕ → Found
+lost n o = record { refusal = Refused n o; start = 0; length = 0 }
+
+-- "12. The block asked for does not exist." "a block's stretch 1 to 6 and 12 (with an empty stretch ..)"
+unfoldable pub foundIn : Refusal → List ℕ → ℕ → Found
+foundIn (Refused n o) s i = lost n o
+foundIn Passed s i =
+    let b = blockEntry s (getD (blocksOf s) i 0) in
+    if ltb i (length (blocksOf s)) then record { refusal = Passed; start = b .start; length = b .length } else lost 12 0
+
+abbrev pub foundBlock : List ℕ → ℕ → Found
+foundBlock s i = foundIn (unreadable s) s i
+
+unfoldable pub stretch : List ℕ → ℕ → List ℕ
+stretch s i = take (foundBlock s i .length) (drop (foundBlock s i .start) s)
+
+-- a whole record of the kind stands at o
+abbrev pub stands : (ℕ → Bool) → List ℕ → ℕ → Bool
+stands f s o = both (ltb o (length s)) (both (f (byteAt s o)) (not (cut s o)))
+
+unfoldable pub stepFound : List ℕ → ℕ → StepAt
+stepFound s o = if stands isStep s o then StepThere (stepAt s o) (next s o) else NoStep
+
+unfoldable pub cellFound : List ℕ → ℕ → CellAt
+cellFound s o = if stands isCell s o then CellThere (declaredAt s o) else NoCell

@@ -1,0 +1,37 @@
+-- Labels and trust: 01, "Labels". A label is document 001's dynamic label, a trust its static label.
+--     label, trust            a number as one
+--     lower                   the lower of two labels
+--     reaches, isAbove        one label against another
+--     isMet, isHigh          a trust against a label: the only comparisons between the two
+-- Assumes nothing.
+use Prim.Native.Nat.{ℕ, min}
+use mathlib.Core.Bool.{Bool}
+use lib.Dec.{leb, ltb}
+use Rattle.labels.specs.declared.Label.{Label}
+use Rattle.labels.specs.declared.Trust.{Trust}
+
+abbrev pub label : ℕ → Label
+label n = record { 0 = n }
+
+abbrev pub trust : ℕ → Trust
+trust n = record { 0 = n }
+
+-- "The lower of two labels is read from a table of 256 entries, row times 16 plus column."
+unfoldable pub lower : Label → Label → Label
+lower a b = label (min (a .0) (b .0))
+
+-- a is at least b: "higher is more trusted"
+abbrev pub reaches : Label → Label → Bool
+reaches a b = leb (b .0) (a .0)
+
+-- a is above b
+abbrev pub isAbove : Label → Label → Bool
+isAbove a b = ltb (b .0) (a .0)
+
+-- the label is at least the trust
+abbrev pub isMet : Trust → Label → Bool
+isMet t l = leb (t .0) (l .0)
+
+-- the trust is above C: "a trust or effect at or below C counts as 0 (\"low\")"
+abbrev pub isHigh : Trust → Label → Bool
+isHigh t c = ltb (c .0) (t .0)

@@ -1,0 +1,67 @@
+// Labels and trust. Document 001 has two kinds of label: the dynamic label of a cell or a job, and the static label of a cell's
+// content, which the request calls its trust. They are types of their own, and only the functions here compare one with the other.
+mod table;
+
+ghost use mathlib.Core.Path.{_≡_};
+ghost use Rattle.labels.specs.Labels.{lower, reaches, isAbove, isMet, isHigh};
+
+// A label: 0 to 15, higher is more trusted. Labels of cells and jobs, bounds, C and the members of histories.
+pub struct Label(pub u8);
+
+// The trust of a cell: fixed by its shape.
+pub struct Trust(pub u8);
+
+impl Label {
+    // The most trusted label.
+    pub const TOP: Label = Label(15);
+
+    // The lower of two labels. No label is above 15; the contract holds of any two bytes, so that no caller has to show what it holds.
+    pub fn lower_of(self, other: Label) -> Label
+        ensures { λ r. ⌜ r ≡ lower self other ⌝ }
+    {
+        let row = self.0;
+        let column = other.0;
+        if row <= 15 {
+            if column <= 15 {
+                let at = row as usize * 16 + column as usize;
+                let lower = table::LOWER[at];
+                return Label(lower);
+            }
+            return self;
+        }
+        if column < row {
+            return other;
+        }
+        self
+    }
+
+    // This label is at least the other.
+    pub fn reaches(self, other: Label) -> bool
+        ensures { λ r. ⌜ r ≡ reaches self other ⌝ }
+    {
+        other.0 <= self.0
+    }
+
+    // This label is above the other.
+    pub fn is_above(self, other: Label) -> bool
+        ensures { λ r. ⌜ r ≡ isAbove self other ⌝ }
+    {
+        other.0 < self.0
+    }
+}
+
+impl Trust {
+    // The label is at least this trust.
+    pub fn is_met(self, label: Label) -> bool
+        ensures { λ r. ⌜ r ≡ isMet self label ⌝ }
+    {
+        self.0 <= label.0
+    }
+
+    // This trust is above the label C: not low.
+    pub fn is_high(self, c: Label) -> bool
+        ensures { λ r. ⌜ r ≡ isHigh self c ⌝ }
+    {
+        c.0 < self.0
+    }
+}
