@@ -1,5 +1,5 @@
 -- The parsed book: what stands at each record, and the whole as data, of which the typing rules and the machine speak.
---     shapesOf, cellsOf, ..     the records of each group; stepsFrom: the steps of a block
+--     groupOf, stepsFrom        the records of a group; the steps of a block
 --     shapeAt, .., blockAt      what a record says
 --     Book, parse               the book
 -- "Each is numbered from 0": a number is a place in one of these lists. Assumes nothing.
@@ -16,25 +16,24 @@ use Rattle.book.specs.declared.Declared.{Declared}
 use Rattle.book.specs.declared.Step.{Step}
 use Rattle.book.specs.declared.Step.the-variants.{Put, Name, Code, Add, New, Read, Write, Relabel, Lower, Start, Exec}
 use Rattle.book.specs.Control.{if_then_else_, those, while}
-use Rattle.book.specs.Kinds.{isShape, isCell, isBlock, isStep}
-use Rattle.book.specs.Records.{byteAt, numberAt, records, recordsFrom}
+use Rattle.book.specs.Records.{byteAt, numberAt, records, recordsFrom, inGroup}
 
--- the offsets of a group's records
-unfoldable pub shapesOf : List ℕ → List ℕ
-shapesOf s = those (λ o. isShape (byteAt s o)) (records s)
+-- the records of group g
+unfoldable pub groupOf : List ℕ → ℕ → List ℕ
+groupOf s g = those (inGroup s g) (records s)
 
-unfoldable pub cellsOf : List ℕ → List ℕ
-cellsOf s = those (λ o. isCell (byteAt s o)) (records s)
+abbrev pub shapesOf : List ℕ → List ℕ
+shapesOf s = groupOf s 2
 
-unfoldable pub blocksOf : List ℕ → List ℕ
-blocksOf s = those (λ o. isBlock (byteAt s o)) (records s)
+abbrev pub cellsOf : List ℕ → List ℕ
+cellsOf s = groupOf s 3
 
-unfoldable pub stepsOf : List ℕ → List ℕ
-stepsOf s = those (λ o. isStep (byteAt s o)) (records s)
+abbrev pub blocksOf : List ℕ → List ℕ
+blocksOf s = groupOf s 4
 
 -- the steps that stand from o on: "Its steps follow, perhaps none."
 unfoldable pub stepsFrom : List ℕ → ℕ → List ℕ
-stepsFrom s o = while (λ o. isStep (byteAt s o)) (recordsFrom s o)
+stepsFrom s o = while (inGroup s 5) (recordsFrom s o)
 
 -- "16 plain shape, no body; 17 code shape: bound; 18 cell shape: content shape, trust"; what a kind does not have is 0
 unfoldable pub shapeAt : List ℕ → ℕ → Shape

@@ -1,7 +1,7 @@
 -- Tests, and what tests pick from a list.
 --     if_then_else_, both, either     cases on tests
 --     those, while                    the members that pass; those before the first that does not
---     first                           the first member at fault
+--     sweep, first                    the first member at fault
 -- Assumes nothing.
 use Prim.Native.Nat.{ℕ}
 use mathlib.Core.Bool.{Bool, true, false}
@@ -30,6 +30,12 @@ unfoldable pub while : (ℕ → Bool) → List ℕ → List ℕ
 while f [] = []
 while f (x ∷ xs) = elim (f x) [ true ↦ x ∷ while f xs | false ↦ [] ]
 
-unfoldable pub first : (ℕ → Bool) → List ℕ → Fault
-first f [] = Nowhere
-first f (x ∷ xs) = elim (f x) [ true ↦ At x | false ↦ first f xs ]
+-- A stage of refusals: from the state t each record is bad or gives the next state; the end may be at fault too.
+module _ {S : Type 0} (bad : S → ℕ → Bool) (on : S → ℕ → S) (end : S → Fault) where
+  unfoldable pub sweep : S → List ℕ → Fault
+  sweep t [] = end t
+  sweep t (o ∷ os) = elim (bad t o) [ true ↦ At o | false ↦ sweep (on t o) os ]
+
+-- the first member that is bad
+abbrev pub first : (ℕ → Bool) → List ℕ → Fault
+first f os = sweep {S = Unit {0}} (λ t o. f o) (λ t o. t) (λ t. Nowhere) tt os

@@ -1,14 +1,14 @@
 -- The kinds of record: 01, "The job book".
 --     layouts           the fields of each kind, each by its largest value
 --     span, limits      the bytes of a record of a kind, and its fields' largest values
---     isShape, ..       the groups
+--     group             the group of a kind
 -- Assumes nothing.
 use Prim.Native.Nat.{ℕ, suc}
 use mathlib.Core.Bool.{Bool, true, false}
 use mathlib.Core.List.{List, [], _∷_}
 use lib.ListN.{length}
 use lib.Dec.{leb, eqb}
-use Rattle.book.specs.Control.{both}
+use Rattle.book.specs.Control.{if_then_else_, both}
 
 -- "A label, bound or trust is above 15, C above 14, a register above 7, or a value kind above 2": refusal 5.
 abbrev pub labelled : ℕ
@@ -69,18 +69,12 @@ limitsIn (l ∷ ls) k = elim (eqb (l .0) k) [ true ↦ l .1 | false ↦ limitsIn
 unfoldable pub limits : ℕ → List ℕ
 limits k = limitsIn layouts k
 
--- the groups
-abbrev pub isC : ℕ → Bool
-isC k = eqb k 1
-
-abbrev pub isShape : ℕ → Bool
-isShape k = both (leb 16 k) (leb k 18)
-
-abbrev pub isCell : ℕ → Bool
-isCell k = eqb k 32
-
-abbrev pub isBlock : ℕ → Bool
-isBlock k = eqb k 48
-
-abbrev pub isStep : ℕ → Bool
-isStep k = both (leb 64 k) (leb k 74)
+-- "Groups stand in this order: C, shapes, cells, blocks": 1, 2, 3, 4; the steps are 5, and what is no kind 0
+unfoldable pub group : ℕ → ℕ
+group k =
+    if eqb k 1 then 1
+    else if both (leb 16 k) (leb k 18) then 2
+    else if eqb k 32 then 3
+    else if eqb k 48 then 4
+    else if both (leb 64 k) (leb k 74) then 5
+    else 0

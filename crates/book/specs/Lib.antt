@@ -5,3 +5,4 @@ pub mod Book
 pub mod Refusals
 pub mod Outline
 pub mod Stretch
+pub mod Asked

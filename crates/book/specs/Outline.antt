@@ -14,7 +14,7 @@ use Rattle.book.specs.declared.Refusal.{Refusal}
 use Rattle.book.specs.declared.Refusal.the-variants.{Passed, Refused}
 use Rattle.book.specs.declared.Reading.{Reading}
 use Rattle.book.specs.Records.{byteAt, next}
-use Rattle.book.specs.Book.{shapesOf, cellsOf, blocksOf, stepsOf, stepsFrom, shapeAt}
+use Rattle.book.specs.Book.{shapesOf, cellsOf, blocksOf, stepsFrom, shapeAt}
 use Rattle.book.specs.Refusals.{noShape, unreadable}
 
 -- the list, then the default
@@ -42,13 +42,18 @@ cellEntry s o = record { at = o; shape = byteAt s (o + 1) }
 unfoldable pub blockEntry : List ℕ → ℕ → BlockEntry
 blockEntry s o = record { bound = label (byteAt s (o + 1)); start = o + 2; length = stepsEnd s (o + 2) - (o + 2) }
 
+-- how many steps the blocks at os have
+unfoldable pub stepCount : List ℕ → List ℕ → ℕ
+stepCount s [] = 0
+stepCount s (o ∷ os) = length (stepsFrom s (o + 2)) + stepCount s os
+
 -- "Acceptance reports the shapes, cells, blocks and steps in the book"
 unfoldable pub outlineOf : List ℕ → Outline
 outlineOf s =
     record {
       c = label (byteAt s 1);
       counts =
-          record { shapes = length (shapesOf s); cells = length (cellsOf s); blocks = length (blocksOf s); steps = length (stepsOf s) };
+          record { shapes = length (shapesOf s); cells = length (cellsOf s); blocks = length (blocksOf s); steps = stepCount s (blocksOf s) };
       shape = pad 32 noShape (map (shapeAt s) (shapesOf s));
       cell = pad 32 noCell (map (cellEntry s) (cellsOf s));
       block = pad 64 noBlock (map (blockEntry s) (blocksOf s));

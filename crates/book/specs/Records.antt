@@ -2,6 +2,7 @@
 --     byteAt, numberAt         a byte, a number
 --     next, cut                the offset past a record; refusal 2 holds of it
 --     recordsFrom, records     the records from an offset on, up to one that refusal 2 holds of
+--     inGroup                  the group of a record
 -- Assumes nothing.
 use Prim.Native.Nat.{ℕ, zero, suc, _+_, _*_}
 use mathlib.Core.Bool.{Bool, true, false}
@@ -9,7 +10,7 @@ use mathlib.Core.List.{List, [], _∷_}
 use lib.ListN.{length, getD}
 use lib.Dec.{ltb, eqb}
 use Rattle.book.specs.Control.{either}
-use Rattle.book.specs.Kinds.{span}
+use Rattle.book.specs.Kinds.{span, group}
 
 -- a byte of the book; 0 past its end
 abbrev pub byteAt : List ℕ → ℕ → ℕ
@@ -38,3 +39,7 @@ recordsFrom s o = recordsIn (length s) s o
 
 abbrev pub records : List ℕ → List ℕ
 records s = recordsFrom s 0
+
+-- the record at o is of group g
+abbrev pub inGroup : List ℕ → ℕ → ℕ → Bool
+inGroup s g o = eqb (group (byteAt s o)) g

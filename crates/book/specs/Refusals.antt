@@ -19,35 +19,24 @@ use Rattle.book.specs.declared.Value.the-variants.{Plain, CellName, Code
 use Rattle.book.specs.declared.Declared.{Declared}
 use Rattle.book.specs.declared.Step.{Step}
 use Rattle.book.specs.declared.Step.the-variants.{Put, Name, Code, Add, New, Read, Write, Relabel, Lower, Start, Exec}
-use Rattle.book.specs.Control.{if_then_else_, both, either, first}
-use Rattle.book.specs.Kinds.{limits, isC, isShape, isCell, isBlock, isStep}
-use Rattle.book.specs.Records.{byteAt, records, cut}
+use Rattle.book.specs.Control.{if_then_else_, both, either, sweep, first}
+use Rattle.book.specs.Kinds.{limits, group}
+use Rattle.book.specs.Records.{byteAt, records, cut, inGroup}
 use Rattle.book.specs.Book.{Book, parse, declaredAt, stepAt}
 
 -- 2: "A kind is none of the above, or the book ends inside a body."
 unfoldable pub cutFault : List ℕ → Fault
 cutFault s = first (cut s) (records s)
 
--- 3: the groups: C 1, shapes 2, cells 3, blocks 4, steps 5
-unfoldable pub group : ℕ → ℕ
-group k =
-    if isC k then 1
-    else if isShape k then 2
-    else if isCell k then 3
-    else if isBlock k then 4
-    else if isStep k then 5
-    else 0
-
--- A record of group g may stand after one of group p; a step counts as of group 4 there, and p is 0 before the first record.
+-- 3: A record of group g may stand after one of group p; a step counts as of group 4 there, and p is 0 before the first record.
 -- "First record, once." "Groups stand in this order: C, shapes, cells, blocks. A step before the first block is out of order."
 unfoldable pub inOrder : ℕ → ℕ → Bool
 inOrder p g = if eqb p 0 then eqb g 1 else if eqb g 5 then eqb p 4 else both (ltb 1 g) (leb p g)
 
 -- "The first record is missing or not C, a record is out of order, or no block stands (place: the book's length, or 0 if it is empty)."
 unfoldable pub misplaced : List ℕ → ℕ → List ℕ → Fault
-misplaced s p [] = if eqb p 4 then Nowhere else At (length s)
-misplaced s p (o ∷ os) =
-    elim (inOrder p (group (byteAt s o))) [ true ↦ misplaced s (min (group (byteAt s o)) 4) os | false ↦ At o ]
+misplaced s p os =
+    sweep (λ p o. not (inOrder p (group (byteAt s o)))) (λ p o. min (group (byteAt s o)) 4) (λ p. if eqb p 4 then Nowhere else At (length s)) p os
 
 unfoldable pub orderFault : List ℕ → Fault
 orderFault s = misplaced s 0 (records s)
@@ -69,10 +58,8 @@ unfoldable pub tooMany : Tally → Bool
 tooMany n = either (ltb 32 (n .shapes)) (either (ltb 32 (n .cells)) (either (ltb 64 (n .blocks)) (ltb 64 (n .steps))))
 
 unfoldable pub beyond : List ℕ → Tally → List ℕ → Fault
-beyond s n [] = Nowhere
-beyond s n (o ∷ os) =
-    let m = counted n (group (byteAt s o)) in
-    elim (tooMany m) [ true ↦ At o | false ↦ beyond s m os ]
+beyond s n os =
+    sweep (λ n o. tooMany (counted n (group (byteAt s o)))) (λ n o. counted n (group (byteAt s o))) (λ n. Nowhere) n os
 
 unfoldable pub countFault : List ℕ → Fault
 countFault s = beyond s none (records s)
@@ -88,55 +75,51 @@ outOfRange s o = above s (o + 1) (limits (byteAt s o))
 unfoldable pub rangeFault : List ℕ → Fault
 rangeFault s = first (outOfRange s) (records s)
 
--- 6: what the book K has
-abbrev pub noShape : Shape
-noShape = record { kind = 0; bound = label 0; content = 0; trust = trust 0 }
-
-module _ (K : Book) where
-  abbrev pub hasCellShape : ℕ → Bool
-  hasCellShape i = eqb (getD (K .shapes) i noShape .kind) 18
-
-  abbrev pub hasCell : ℕ → Bool
-  hasCell i = ltb i (length (K .cells))
-
-  abbrev pub hasBlock : ℕ → Bool
-  hasBlock i = ltb i (length (K .blocks))
-
+-- 6: which shapes of the book are cell shapes, and how many cells and blocks it has
+module _ (isCellShape : ℕ → Bool) (cells blocks : ℕ) where
   -- "a declared cell or block number does not exist"
   unfoldable pub valueNamed : Value → Bool
   valueNamed (Plain n) = true
-  valueNamed (CellName n) = hasCell n
-  valueNamed (CodeName n) = hasBlock n
+  valueNamed (CellName n) = ltb n cells
+  valueNamed (CodeName n) = ltb n blocks
+
+  -- "a cell or new names no cell shape"
+  unfoldable pub cellNamed : Declared → Bool
+  cellNamed d = both (isCellShape (d .shape)) (valueNamed (d .value))
 
   unfoldable pub stepNamed : Step → Bool
   stepNamed (Put r n) = true
-  stepNamed (Name r k) = hasCell k
-  stepNamed (Code r b) = hasBlock b
+  stepNamed (Name r k) = ltb k cells
+  stepNamed (Code r b) = ltb b blocks
   stepNamed (Add r a b) = true
-  stepNamed (New r i a) = hasCellShape i
+  stepNamed (New r i a) = isCellShape i
   stepNamed (Read r w) = true
   stepNamed (Write w a) = true
   stepNamed (Relabel w l) = true
   stepNamed (Lower l) = true
-  stepNamed (Start b) = hasBlock b
+  stepNamed (Start b) = ltb b blocks
   stepNamed (Exec w) = true
 
-  -- the record at o, before which n shapes stand: "A content shape is not lower-numbered than its cell shape, a cell or new names no
-  -- cell shape, or a declared cell or block number does not exist."
+  -- the record at o, before which n shapes stand: "A content shape is not lower-numbered than its cell shape, .."
   unfoldable pub dangling : List ℕ → ℕ → ℕ → Bool
   dangling s n o =
       if eqb (byteAt s o) 18 then leb n (byteAt s (o + 1))
-      else if isCell (byteAt s o) then not (both (hasCellShape (declaredAt s o .shape)) (valueNamed (declaredAt s o .value)))
-      else if isStep (byteAt s o) then not (stepNamed (stepAt s o))
+      else if inGroup s 3 o then not (cellNamed (declaredAt s o))
+      else if inGroup s 5 o then not (stepNamed (stepAt s o))
       else false
 
   unfoldable pub dangles : List ℕ → ℕ → List ℕ → Fault
-  dangles s n [] = Nowhere
-  dangles s n (o ∷ os) =
-      elim (dangling s n o) [ true ↦ At o | false ↦ dangles s (if isShape (byteAt s o) then n + 1 else n) os ]
+  dangles s n os = sweep (dangling s) (λ n o. if inGroup s 2 o then n + 1 else n) (λ n. Nowhere) n os
+
+-- past the shapes: no shape
+abbrev pub noShape : Shape
+noShape = record { kind = 0; bound = label 0; content = 0; trust = trust 0 }
+
+abbrev pub hasCellShape : Book → ℕ → Bool
+hasCellShape K i = eqb (getD (K .shapes) i noShape .kind) 18
 
 unfoldable pub nameFault : List ℕ → Fault
-nameFault s = dangles (parse s) s 0 (records s)
+nameFault s = let K = parse s in dangles (hasCellShape K) (length (K .cells)) (length (K .blocks)) s 0 (records s)
 
 -- the number of a refusal, where a record is at fault
 unfoldable pub orRefuse : ℕ → Fault → Refusal → Refusal

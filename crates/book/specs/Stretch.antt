@@ -15,8 +15,7 @@ use Rattle.book.specs.declared.StepAt.the-variants.{NoStep, StepThere}
 use Rattle.book.specs.declared.CellAt.{CellAt}
 use Rattle.book.specs.declared.CellAt.the-variants.{NoCell, CellThere}
 use Rattle.book.specs.Control.{if_then_else_, both}
-use Rattle.book.specs.Kinds.{isCell, isStep}
-use Rattle.book.specs.Records.{byteAt, next, cut}
+use Rattle.book.specs.Records.{next, cut, inGroup}
 use Rattle.book.specs.Book.{blocksOf, stepAt, declaredAt}
 use Rattle.book.specs.Refusals.{unreadable}
 use Rattle.book.specs.Outline.{blockEntry}
@@ -38,12 +37,12 @@ foundBlock s i = foundIn (unreadable s) s i
 unfoldable pub stretch : List ℕ → ℕ → List ℕ
 stretch s i = take (foundBlock s i .length) (drop (foundBlock s i .start) s)
 
--- a whole record of the kind stands at o
-abbrev pub stands : (ℕ → Bool) → List ℕ → ℕ → Bool
-stands f s o = both (ltb o (length s)) (both (f (byteAt s o)) (not (cut s o)))
+-- a whole record of group g stands at o
+abbrev pub stands : List ℕ → ℕ → ℕ → Bool
+stands s g o = both (ltb o (length s)) (both (inGroup s g o) (not (cut s o)))
 
 unfoldable pub stepFound : List ℕ → ℕ → StepAt
-stepFound s o = if stands isStep s o then StepThere (stepAt s o) (next s o) else NoStep
+stepFound s o = if stands s 5 o then StepThere (stepAt s o) (next s o) else NoStep
 
 unfoldable pub cellFound : List ℕ → ℕ → CellAt
-cellFound s o = if stands isCell s o then CellThere (declaredAt s o) else NoCell
+cellFound s o = if stands s 3 o then CellThere (declaredAt s o) else NoCell

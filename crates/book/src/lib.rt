@@ -1,4 +1,8 @@
 // Reading a job book: records, refusals 1 to 6, the outline, a block's stretch, the step or the declared cell at an offset.
+mod fields;
+mod tables;
+mod walk;
+
 use labels::Label;
 use labels::Trust;
 
@@ -78,6 +82,12 @@ pub struct BlockEntry {
     pub bound: Label,
     pub start: u16,
     pub length: u16,
+}
+
+// Where a run of steps ends, and how many they are.
+pub struct Skipped {
+    pub at: usize,
+    pub count: usize,
 }
 
 // What a book says apart from its steps and its cells' values. Unused entries are 0.

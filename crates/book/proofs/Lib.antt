@@ -1,0 +1,5 @@
+pub mod Tests
+pub mod Lists
+pub mod Groups
+pub mod Records
+pub mod Steps

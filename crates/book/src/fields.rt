@@ -1,0 +1,70 @@
+// Bytes and numbers of a book, and what a kind fixes.
+use crate::tables;
+ghost use mathlib.Core.Path.{_≡_};
+ghost use Prim.Native.Nat.{_+_, _≤_};
+ghost use lib.ListN.{length};
+ghost use Rattle.book.specs.Kinds.{span, group};
+ghost use Rattle.book.specs.Records.{byteAt, numberAt};
+
+// The byte at an offset; 0 past the end.
+pub fn byte(s: &[u8], i: usize) -> u8
+    ensures { λ r. ⌜ r ≡ byteAt (now (s .entry)) i ⌝ }
+{
+    if i < s.len() { s[i] } else { 0 }
+}
+
+fn wide(b: u8) -> u32
+    ensures { λ r. ⌜ (r ≡ b) × (r ≤ 255) ⌝ }
+{
+    b as u32
+}
+
+// A number of 4 bytes, little-endian.
+pub fn number(s: &[u8], o: usize) -> u32
+    requires { ⌜ o ≤ length (now s) + 4 ⌝ }
+    ensures { λ r. ⌜ r ≡ numberAt (now (s .entry)) o ⌝ }
+{
+    let a = wide(byte(s, o));
+    let b = wide(byte(s, o + 1));
+    let c = wide(byte(s, o + 2));
+    let d = wide(byte(s, o + 3));
+    a + 256 * b + 65536 * c + 16777216 * d
+}
+
+// The bytes of a record of a kind; 0 where no record has the kind.
+pub fn span_of(kind: u8) -> u8
+    ensures { λ r. ⌜ r ≡ span kind ⌝ }
+{
+    if kind < 75 {
+        return tables::SPANS[kind as usize];
+    }
+    0
+}
+
+// The group of a kind: C 1, shapes 2, cells 3, blocks 4, steps 5, no kind 0.
+pub fn group_of(kind: u8) -> u8
+    ensures { λ r. ⌜ r ≡ group kind ⌝ }
+{
+    if 64 <= kind {
+        if kind <= 74 {
+            return 5;
+        }
+        return 0;
+    }
+    if kind == 48 {
+        return 4;
+    }
+    if kind == 32 {
+        return 3;
+    }
+    if 16 <= kind {
+        if kind <= 18 {
+            return 2;
+        }
+        return 0;
+    }
+    if kind == 1 {
+        return 1;
+    }
+    0
+}
