@@ -33,3 +33,8 @@ pub either-true : (a : Bool) → either a true ≡ true
 unfolding either
 either-true true = refl
 either-true false = refl
+
+pub either-false : (a : Bool) → either a false ≡ a
+unfolding either
+either-false true = refl
+either-false false = refl

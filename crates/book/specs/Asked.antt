@@ -1,20 +1,25 @@
 -- What the functions inside this crate ask of their callers. No call that a user makes asks any of it.
 --     Whole              from an offset on, every record is whole
+--     limit              the largest value of a field of a kind; 255 where any byte will do
 --     skipped            where the steps from an offset on end, and how many they are
 -- Assumes nothing.
 use mathlib.Core.Path.{_≡_}
 use mathlib.Core.List.{List}
 use Prim.Native.Nat.{ℕ}
-use lib.ListN.{length}
+use lib.ListN.{length, getD}
 use Rattle.book.specs.declared.Fault.the-variants.{Nowhere}
 use Rattle.book.specs.declared.Skipped.{Skipped}
 use Rattle.book.specs.Control.{first}
+use Rattle.book.specs.Kinds.{limits}
 use Rattle.book.specs.Records.{cut, recordsFrom}
 use Rattle.book.specs.Book.{stepsFrom}
 use Rattle.book.specs.Outline.{stepsEnd}
 
 abbrev pub Whole : List ℕ → ℕ → Type 0
 Whole s o = first (cut s) (recordsFrom s o) ≡ Nowhere
+
+abbrev pub limit : ℕ → ℕ → ℕ
+limit k i = getD (limits k) i 255
 
 abbrev pub skipped : List ℕ → ℕ → Skipped
 skipped s o = record { at = stepsEnd s o; count = length (stepsFrom s o) }

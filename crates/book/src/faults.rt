@@ -1,0 +1,185 @@
+// Refusals 2 to 5: each the first record at fault. Refusal 6 needs the outline, and stands in naming.rt.
+use crate::Fault;
+use crate::Tally;
+use crate::fields;
+use crate::tables;
+use crate::walk;
+ghost use mathlib.Core.Path.{_≡_};
+ghost use mathlib.Core.Bool.{false};
+ghost use Prim.Native.Nat.{_<_, min};
+ghost use lib.ListN.{length};
+ghost use Rattle.book.specs.Refusals.{cutFault, inOrder, orderFault, counted, tooMany, countFault, outOfRange, rangeFault};
+ghost use Rattle.book.specs.Asked.{Whole, limit};
+
+// 2: a kind that is none, or a body that the book ends in.
+pub fn cut_fault(s: &[u8]) -> Fault
+    ensures { λ r. ⌜ r ≡ cutFault (now (s .entry)) ⌝ }
+{
+    let mut o: usize = 0;
+    while o < s.len() {
+        let k = s[o];
+        let w = fields::span_of(k) as usize;
+        if w == 0 {
+            return Fault::At(o);
+        }
+        if s.len() - o < w {
+            return Fault::At(o);
+        }
+        o = o + w;
+    }
+    Fault::Nowhere
+}
+
+// A record of group g may stand after one of group p.
+fn in_order(p: u8, g: u8) -> bool
+    ensures { λ r. ⌜ r ≡ inOrder p g ⌝ }
+{
+    if p == 0 {
+        return g == 1;
+    }
+    if g == 5 {
+        return p == 4;
+    }
+    if 1 < g {
+        return p <= g;
+    }
+    false
+}
+
+// A step counts as of its block's group.
+fn block_group(g: u8) -> u8
+    ensures { λ r. ⌜ r ≡ min g 4 ⌝ }
+{
+    if g < 4 { g } else { 4 }
+}
+
+// 3: the first record is not C, a record is out of order, or no block stands.
+pub fn order_fault(s: &[u8]) -> Fault
+    requires { ⌜ Whole (now s) 0 ⌝ }
+    ensures { λ r. ⌜ r ≡ orderFault (now (s .entry)) ⌝ }
+{
+    let mut o: usize = 0;
+    let mut p: u8 = 0;
+    while o < s.len() {
+        let k = s[o];
+        let g = fields::group_of(k);
+        let ok = in_order(p, g);
+        if ok {
+            p = block_group(g);
+            o = walk::next_record(s, o);
+        } else {
+            return Fault::At(o);
+        }
+    }
+    if p == 4 {
+        return Fault::Nowhere;
+    }
+    Fault::At(s.len())
+}
+
+// One record more.
+fn count(n: Tally, g: u8) -> Tally
+    requires { ⌜ tooMany n ≡ false ⌝ }
+    ensures { λ r. ⌜ r ≡ counted n g ⌝ }
+{
+    let mut m = n;
+    if g == 2 {
+        m.shapes = n.shapes + 1;
+        return m;
+    }
+    if g == 3 {
+        m.cells = n.cells + 1;
+        return m;
+    }
+    if g == 4 {
+        m.blocks = n.blocks + 1;
+        m.steps = 0;
+        return m;
+    }
+    if g == 5 {
+        m.steps = n.steps + 1;
+        return m;
+    }
+    m
+}
+
+fn too_many(n: Tally) -> bool
+    ensures { λ r. ⌜ r ≡ tooMany n ⌝ }
+{
+    if 32 < n.shapes {
+        return true;
+    }
+    if 32 < n.cells {
+        return true;
+    }
+    if 64 < n.blocks {
+        return true;
+    }
+    64 < n.steps
+}
+
+// 4: a record beyond 32 shapes, 32 cells, 64 blocks or 64 steps in a block.
+pub fn count_fault(s: &[u8]) -> Fault
+    requires { ⌜ Whole (now s) 0 ⌝ }
+    ensures { λ r. ⌜ r ≡ countFault (now (s .entry)) ⌝ }
+{
+    let mut o: usize = 0;
+    let mut n = Tally {
+        shapes: 0,
+        cells: 0,
+        blocks: 0,
+        steps: 0,
+    };
+    while o < s.len() {
+        let k = s[o];
+        let m = count(n, fields::group_of(k));
+        if too_many(m) {
+            return Fault::At(o);
+        }
+        n = m;
+        o = walk::next_record(s, o);
+    }
+    Fault::Nowhere
+}
+
+// The largest value of one of a record's first three fields; 255 where any byte will do.
+fn limit_of(kind: u8, field: usize) -> u8
+    requires { ⌜ field < 3 ⌝ }
+    ensures { λ r. ⌜ r ≡ limit kind field ⌝ }
+{
+    if kind < 75 {
+        let at = kind as usize * 3 + field;
+        return tables::LIMITS[at];
+    }
+    255
+}
+
+// A field is above its largest value. No field after the third has one.
+fn out_of_range(s: &[u8], o: usize) -> bool
+    requires { ⌜ o < length (now s) ⌝ }
+    ensures { λ r. ⌜ r ≡ outOfRange (now (s .entry)) o ⌝ }
+{
+    let k = s[o];
+    if limit_of(k, 0) < fields::byte(s, o + 1) {
+        return true;
+    }
+    if limit_of(k, 1) < fields::byte(s, o + 2) {
+        return true;
+    }
+    limit_of(k, 2) < fields::byte(s, o + 3)
+}
+
+// 5: a label, bound or trust above 15, C above 14, a register above 7, a value kind above 2.
+pub fn range_fault(s: &[u8]) -> Fault
+    requires { ⌜ Whole (now s) 0 ⌝ }
+    ensures { λ r. ⌜ r ≡ rangeFault (now (s .entry)) ⌝ }
+{
+    let mut o: usize = 0;
+    while o < s.len() {
+        if out_of_range(s, o) {
+            return Fault::At(o);
+        }
+        o = walk::next_record(s, o);
+    }
+    Fault::Nowhere
+}
