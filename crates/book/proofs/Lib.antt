@@ -6,3 +6,4 @@ pub mod Steps
 pub mod Sweep
 pub mod Stages
 pub mod Ranges
+pub mod Decoded

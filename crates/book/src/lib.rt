@@ -1,4 +1,5 @@
 // Reading a job book: records, refusals 1 to 6, the outline, a block's stretch, the step or the declared cell at an offset.
+mod decode;
 mod faults;
 mod fields;
 mod tables;

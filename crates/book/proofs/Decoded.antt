@@ -1,0 +1,215 @@
+-- Laws of decoding: what the code makes of the bytes is what stands there.
+--     shapes, values, steps      one set for each
+--     found                      the step or the declared cell at an offset, if one stands there
+-- Assumes nothing.
+use mathlib.Core.Path.{_≡_, refl, sym, ap, _∙_}
+use mathlib.Core.Bool.{Bool, true, false, not, _||_}
+use mathlib.Core.List.{List}
+use Prim.Native.Nat.{ℕ, _+_, _-_, _≤_, _<_}
+use native.Mathlib.Omega.{arith}
+use lib.Dec.{eqb, ltb, T, eqb→eq}
+use lib.ListN.{length, replicate}
+use borrow.Author.Tests.{eq-eqb, ne-eqb, lt-ltb, le-ltb}
+use mir.Val.{Fits}
+use mir.Syntax.{w8}
+use Rattle.labels.specs.Labels.{label, trust}
+use Rattle.labels.proofs.Tables.{at}
+use Rattle.book.specs.declared.Shape.{Shape}
+use Rattle.book.specs.declared.Value.{Value}
+use Rattle.book.specs.declared.Value.the-variants.{Plain, CellName, CodeName}
+use Rattle.book.specs.declared.Declared.{Declared}
+use Rattle.book.specs.declared.Step.{Step}
+use Rattle.book.specs.declared.Step.the-variants.{Put, Name, Code, Add, New, Read, Write, Relabel, Lower, Start, Exec}
+use Rattle.book.specs.declared.StepAt.{StepAt}
+use Rattle.book.specs.declared.StepAt.the-variants.{NoStep, StepThere}
+use Rattle.book.specs.declared.CellAt.{CellAt}
+use Rattle.book.specs.declared.CellAt.the-variants.{NoCell, CellThere}
+use Rattle.book.specs.Control.{if_then_else_, both, either}
+use Rattle.book.specs.Kinds.{span, group}
+use Rattle.book.specs.Records.{byteAt, numberAt, next, cut}
+use Rattle.book.specs.Book.{shapeAt, valueOf, declaredAt, stepAt}
+use Rattle.book.specs.Stretch.{stands, stepFound, cellFound}
+use Rattle.book.proofs.Tests.{either-true}
+
+module _ (s : List ℕ) (o : ℕ) where
+  pub is-code-shape : (x : ℕ) → x ≡ byteAt s (o + 1) → byteAt s o ≡ 17
+      → record { kind = 17; bound = label x; content = 0; trust = trust 0 } ≡ shapeAt s o
+  unfolding shapeAt
+  is-code-shape x ex h = simp (h, ex)
+
+  pub is-cell-shape : (x y : ℕ) → x ≡ byteAt s (o + 1) → y ≡ byteAt s (o + 2) → byteAt s o ≡ 18
+      → record { kind = 18; bound = label 0; content = x; trust = trust y } ≡ shapeAt s o
+  unfolding shapeAt
+  is-cell-shape x y ex ey h = simp (h, ex, ey)
+
+  pub is-plain-shape : (byteAt s o ≡ 17 → ⊥) → (byteAt s o ≡ 18 → ⊥)
+      → record { kind = 16; bound = label 0; content = 0; trust = trust 0 } ≡ shapeAt s o
+  unfolding shapeAt
+  is-plain-shape h k = simp (ne-eqb _ _ h, ne-eqb _ _ k)
+
+pub ruleset shapes = (is-code-shape, is-cell-shape, is-plain-shape)
+
+module _ (k n : ℕ) where
+  pub is-plain : k ≡ 0 → Plain n ≡ valueOf k n
+  unfolding valueOf
+  is-plain e = simp (eq-eqb _ _ e)
+
+  pub is-cell-name : k ≡ 1 → CellName n ≡ valueOf k n
+  unfolding valueOf
+  is-cell-name e = simp e
+
+  pub is-code-name : (k ≡ 0 → ⊥) → (k ≡ 1 → ⊥) → CodeName n ≡ valueOf k n
+  unfolding valueOf
+  is-code-name a b = simp (ne-eqb _ _ a, ne-eqb _ _ b)
+
+pub ruleset values = (is-plain, is-cell-name, is-code-name)
+
+pub is-declared : (s : List ℕ) (o x l k n : ℕ) (v : Value) → x ≡ byteAt s (o + 1) → l ≡ byteAt s (o + 2) → k ≡ byteAt s (o + 3)
+    → n ≡ numberAt s (o + 4) → v ≡ valueOf k n → record { shape = x; label = label l; value = v } ≡ declaredAt s o
+unfolding declaredAt
+is-declared s o x l k n v ex el ek en ev = simp (ev, ex, el, ek, en)
+
+-- x, y, z are the bytes after the kind
+module _ (s : List ℕ) (o x : ℕ) (ex : x ≡ byteAt s (o + 1)) where
+  pub is-put : (n : ℕ) → n ≡ numberAt s (o + 2) → byteAt s o ≡ 64 → Put x n ≡ stepAt s o
+  unfolding stepAt
+  is-put n e h = simp (h, ex, e)
+
+  pub is-lower : byteAt s o ≡ 72 → Lower (label x) ≡ stepAt s o
+  unfolding stepAt
+  is-lower h = simp (h, ex)
+
+  pub is-start : byteAt s o ≡ 73 → Start x ≡ stepAt s o
+  unfolding stepAt
+  is-start h = simp (h, ex)
+
+  pub is-exec : (byteAt s o ≡ 64 → ⊥) → (byteAt s o ≡ 65 → ⊥) → (byteAt s o ≡ 66 → ⊥) → (byteAt s o ≡ 67 → ⊥) → (byteAt s o ≡ 68 → ⊥)
+      → (byteAt s o ≡ 69 → ⊥) → (byteAt s o ≡ 70 → ⊥) → (byteAt s o ≡ 71 → ⊥) → (byteAt s o ≡ 72 → ⊥) → (byteAt s o ≡ 73 → ⊥)
+      → Exec x ≡ stepAt s o
+  unfolding stepAt
+  is-exec a b c d e f g h i j =
+      simp (
+        ne-eqb _ _ a,
+        ne-eqb _ _ b,
+        ne-eqb _ _ c,
+        ne-eqb _ _ d,
+        ne-eqb _ _ e,
+        ne-eqb _ _ f,
+        ne-eqb _ _ g,
+        ne-eqb _ _ h,
+        ne-eqb _ _ i,
+        ne-eqb _ _ j,
+        ex,
+      )
+
+  module _ (y : ℕ) (ey : y ≡ byteAt s (o + 2)) where
+    pub is-name : byteAt s o ≡ 65 → Name x y ≡ stepAt s o
+    unfolding stepAt
+    is-name h = simp (h, ex, ey)
+
+    pub is-code : byteAt s o ≡ 66 → Code x y ≡ stepAt s o
+    unfolding stepAt
+    is-code h = simp (h, ex, ey)
+
+    pub is-read : byteAt s o ≡ 69 → Read x y ≡ stepAt s o
+    unfolding stepAt
+    is-read h = simp (h, ex, ey)
+
+    pub is-write : byteAt s o ≡ 70 → Write x y ≡ stepAt s o
+    unfolding stepAt
+    is-write h = simp (h, ex, ey)
+
+    pub is-relabel : byteAt s o ≡ 71 → Relabel x (label y) ≡ stepAt s o
+    unfolding stepAt
+    is-relabel h = simp (h, ex, ey)
+
+    module _ (z : ℕ) (ez : z ≡ byteAt s (o + 3)) where
+      pub is-add : byteAt s o ≡ 67 → Add x y z ≡ stepAt s o
+      unfolding stepAt
+      is-add h = simp (h, ex, ey, ez)
+
+      pub is-new : byteAt s o ≡ 68 → New x y z ≡ stepAt s o
+      unfolding stepAt
+      is-new h = simp (h, ex, ey, ez)
+
+pub ruleset steps = (is-put, is-name, is-code, is-add, is-new, is-read, is-write, is-relabel, is-lower, is-start, is-exec)
+
+-- a kind of a group has a span
+grouped : ℕ → ℕ → Bool
+grouped k x = eqb (group k) 0 || ltb 0 (span k)
+
+positive : (x g : ℕ) → x ≡ g → 0 < g → eqb x 0 ≡ false
+positive x g e l = ne-eqb x 0 (λ q. omega arith)
+
+pub group-span : (k g : ℕ) → k < 256 → group k ≡ g → 0 < g → span k ≡ 0 → ⊥
+unfolding grouped group both span
+group-span k g h e l z =
+    rw (positive (group k) g e l, z) at (at grouped (replicate 256 0) tt k h)
+
+-- whether a whole record of group g stands at o; d is the group that was found there, w the span
+module _ (s : List ℕ) (g o : ℕ) where
+  stands-past : length s ≤ o → stands s g o ≡ false
+  unfolding both
+  stands-past h = simp (le-ltb o (length s) h)
+
+  module _ (d : ℕ) (h : o < length s) (ed : d ≡ group (byteAt s o)) where
+    stands-other : (d ≡ g → ⊥) → stands s g o ≡ false
+    unfolding both
+    stands-other n = simp (lt-ltb _ _ h, ← ed, ne-eqb _ _ n)
+
+    module _ (w : ℕ) (e : d ≡ g) (q : w ≡ span (byteAt s o)) where
+      stands-short : length s - o < w → stands s g o ≡ false
+      unfolding both cut
+      stands-short l = simp (lt-ltb _ _ h, ← ed, eq-eqb _ _ e, ← q, lt-ltb (length s) (o + w) (omega arith), either-true)
+
+      stands-whole : byteAt s o < 256 → 0 < g → w ≤ length s - o → stands s g o ≡ true
+      unfolding both cut either
+      stands-whole b p l =
+          simp (
+            lt-ltb _ _ h,
+            ← ed,
+            eq-eqb _ _ e,
+            ne-eqb _ _ (group-span (byteAt s o) g b (sym ed ∙ e) p),
+            ← q,
+            le-ltb (length s) (o + w) (omega arith),
+          )
+
+module _ (s : List ℕ) (o : ℕ) where
+  no-step : stands s 5 o ≡ false → NoStep ≡ stepFound s o
+  unfolding stepFound
+  no-step e = simp e
+
+  no-cell : stands s 3 o ≡ false → NoCell ≡ cellFound s o
+  unfolding cellFound
+  no-cell e = simp e
+
+  pub step-past : length s ≤ o → NoStep ≡ stepFound s o
+  step-past h = no-step (stands-past s 5 o h)
+
+  pub cell-past : length s ≤ o → NoCell ≡ cellFound s o
+  cell-past h = no-cell (stands-past s 3 o h)
+
+  module _ (d : ℕ) (h : o < length s) (ed : d ≡ group (byteAt s o)) where
+    pub step-other : (d ≡ 5 → ⊥) → NoStep ≡ stepFound s o
+    step-other n = no-step (stands-other s 5 o d h ed n)
+
+    pub cell-other : (d ≡ 3 → ⊥) → NoCell ≡ cellFound s o
+    cell-other n = no-cell (stands-other s 3 o d h ed n)
+
+    module _ (w : ℕ) (q : w ≡ span (byteAt s o)) where
+      pub step-short : d ≡ 5 → length s - o < w → NoStep ≡ stepFound s o
+      step-short e l = no-step (stands-short s 5 o d h ed w e q l)
+
+      pub cell-short : d ≡ 3 → length s - o < w → NoCell ≡ cellFound s o
+      cell-short e l = no-cell (stands-short s 3 o d h ed w e q l)
+
+      module _ (bytes : (i : ℕ) → Fits w8 (byteAt s i)) (l : w ≤ length s - o) where
+        pub step-there : (p : Step) → d ≡ 5 → p ≡ stepAt s o → StepThere p (o + w) ≡ stepFound s o
+        unfolding stepFound
+        step-there p e ep = simp (stands-whole s 5 o d h ed w e q (bytes o .fits) (omega arith) l, ep, q)
+
+        pub cell-there : (p : Declared) → d ≡ 3 → p ≡ declaredAt s o → CellThere p ≡ cellFound s o
+        unfolding cellFound
+        cell-there p e ep = simp (stands-whole s 3 o d h ed w e q (bytes o .fits) (omega arith) l, ep)
+
+pub ruleset found = (step-past, cell-past, step-other, cell-other, step-short, cell-short, step-there, cell-there)

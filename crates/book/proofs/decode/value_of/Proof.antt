@@ -1,0 +1,16 @@
+use Rattle.book.proofs.Decoded.{values}
+use borrow.Author.Needs.{needs}
+use Rattle.book.proofs.decode.value_of.Statement.{statement}
+use Rattle.book.proofs.decode.value_of.Tie as tie
+
+returns : tie.Need-returns
+returns c = search values
+
+returns-2 : tie.Need-returns-2
+returns-2 c = search values
+
+returns-3 : tie.Need-returns-3
+returns-3 c = search values
+
+pub value-of-spec : {M : Type 1} → statement M
+value-of-spec = tie.close (tie.spec returns returns-2 returns-3)

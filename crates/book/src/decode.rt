@@ -1,0 +1,139 @@
+// What a record says.
+use crate::CellAt;
+use crate::Declared;
+use crate::Shape;
+use crate::Step;
+use crate::StepAt;
+use crate::Value;
+use crate::fields;
+use labels::Label;
+use labels::Trust;
+ghost use mathlib.Core.Path.{_≡_};
+ghost use Prim.Native.Nat.{_<_};
+ghost use lib.ListN.{length};
+ghost use Rattle.book.specs.Book.{shapeAt, valueOf, declaredAt, stepAt};
+ghost use Rattle.book.specs.Stretch.{stepFound, cellFound};
+
+// The shape at an offset.
+pub fn decode_shape(s: &[u8], o: usize) -> Shape
+    requires { ⌜ o < length (now s) ⌝ }
+    ensures { λ r. ⌜ r ≡ shapeAt (now (s .entry)) o ⌝ }
+{
+    let k = s[o];
+    let x = fields::byte(s, o + 1);
+    let y = fields::byte(s, o + 2);
+    if k == 17 {
+        return Shape {
+            kind: 17,
+            bound: Label(x),
+            content: 0,
+            trust: Trust(0),
+        };
+    }
+    if k == 18 {
+        return Shape {
+            kind: 18,
+            bound: Label(0),
+            content: x,
+            trust: Trust(y),
+        };
+    }
+    Shape {
+        kind: 16,
+        bound: Label(0),
+        content: 0,
+        trust: Trust(0),
+    }
+}
+
+// A value by its kind and number.
+fn value_of(kind: u8, number: u32) -> Value
+    ensures { λ r. ⌜ r ≡ valueOf kind number ⌝ }
+{
+    if kind == 0 {
+        return Value::Plain(number);
+    }
+    if kind == 1 {
+        return Value::CellName(number);
+    }
+    Value::CodeName(number)
+}
+
+// The declared cell at an offset.
+pub fn decode_cell(s: &[u8], o: usize) -> Declared
+    requires { ⌜ o < length (now s) ⌝ }
+    ensures { λ r. ⌜ r ≡ declaredAt (now (s .entry)) o ⌝ }
+{
+    let shape = fields::byte(s, o + 1);
+    let label = fields::byte(s, o + 2);
+    let kind = fields::byte(s, o + 3);
+    let number = fields::number(s, o + 4);
+    let value = value_of(kind, number);
+    Declared {
+        shape: shape,
+        label: Label(label),
+        value: value,
+    }
+}
+
+// The step at an offset.
+pub fn decode_step(s: &[u8], o: usize) -> Step
+    requires { ⌜ o < length (now s) ⌝ }
+    ensures { λ r. ⌜ r ≡ stepAt (now (s .entry)) o ⌝ }
+{
+    let k = s[o];
+    let x = fields::byte(s, o + 1);
+    let y = fields::byte(s, o + 2);
+    let z = fields::byte(s, o + 3);
+    match k {
+        64 => Step::Put(x, fields::number(s, o + 2)),
+        65 => Step::Name(x, y),
+        66 => Step::Code(x, y),
+        67 => Step::Add(x, y, z),
+        68 => Step::New(x, y, z),
+        69 => Step::Read(x, y),
+        70 => Step::Write(x, y),
+        71 => Step::Relabel(x, Label(y)),
+        72 => Step::Lower(Label(x)),
+        73 => Step::Start(x),
+        _ => Step::Exec(x),
+    }
+}
+
+// The step that stands at an offset of a stretch, and the offset past it.
+pub fn step_at(stretch: &[u8], offset: usize) -> StepAt
+    ensures { λ r. ⌜ r ≡ stepFound (now (stretch .entry)) offset ⌝ }
+{
+    if offset < stretch.len() {
+        let k = stretch[offset];
+        if fields::group_of(k) != 5 {
+            return StepAt::NoStep;
+        }
+        let w = fields::span_of(k) as usize;
+        if stretch.len() - offset < w {
+            return StepAt::NoStep;
+        }
+        let step = decode_step(stretch, offset);
+        return StepAt::StepThere(step, offset + w);
+    }
+    StepAt::NoStep
+}
+
+// The declared cell that stands at an offset of a book.
+pub fn cell_at(book: &[u8], offset: usize) -> CellAt
+    ensures { λ r. ⌜ r ≡ cellFound (now (book .entry)) offset ⌝ }
+{
+    if offset < book.len() {
+        let k = book[offset];
+        if fields::group_of(k) != 3 {
+            return CellAt::NoCell;
+        }
+        let w = fields::span_of(k) as usize;
+        if book.len() - offset < w {
+            return CellAt::NoCell;
+        }
+        let cell = decode_cell(book, offset);
+        return CellAt::CellThere(cell);
+    }
+    CellAt::NoCell
+}
