@@ -7,3 +7,7 @@ pub mod Sweep
 pub mod Stages
 pub mod Ranges
 pub mod Decoded
+pub mod Filled
+pub mod Past
+pub mod Limits
+pub mod Gathered

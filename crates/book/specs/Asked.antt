@@ -1,11 +1,12 @@
 -- What the functions inside this crate ask of their callers. No call that a user makes asks any of it.
 --     Whole              from an offset on, every record is whole
 --     limit              the largest value of a field of a kind; 255 where any byte will do
+--     Small              a book that refusals 1, 2 and 4 do not hold of
 --     skipped            where the steps from an offset on end, and how many they are
 -- Assumes nothing.
 use mathlib.Core.Path.{_≡_}
 use mathlib.Core.List.{List}
-use Prim.Native.Nat.{ℕ}
+use Prim.Native.Nat.{ℕ, _≤_}
 use lib.ListN.{length, getD}
 use Rattle.book.specs.declared.Fault.the-variants.{Nowhere}
 use Rattle.book.specs.declared.Skipped.{Skipped}
@@ -13,6 +14,7 @@ use Rattle.book.specs.Control.{first}
 use Rattle.book.specs.Kinds.{limits}
 use Rattle.book.specs.Records.{cut, recordsFrom}
 use Rattle.book.specs.Book.{stepsFrom}
+use Rattle.book.specs.Refusals.{countFault}
 use Rattle.book.specs.Outline.{stepsEnd}
 
 abbrev pub Whole : List ℕ → ℕ → Type 0
@@ -23,3 +25,9 @@ limit k i = getD (limits k) i 255
 
 abbrev pub skipped : List ℕ → ℕ → Skipped
 skipped s o = record { at = stepsEnd s o; count = length (stepsFrom s o) }
+
+-- a book that refusals 1, 2 and 4 do not hold of
+pub record Small (s : List ℕ) : Type 0 where
+  pub short : length s ≤ 32768
+  pub whole : Whole s 0
+  pub few : countFault s ≡ Nowhere

@@ -2,6 +2,7 @@
 mod decode;
 mod faults;
 mod fields;
+mod gather;
 mod tables;
 mod walk;
 
