@@ -11,3 +11,4 @@ pub mod Filled
 pub mod Past
 pub mod Limits
 pub mod Gathered
+pub mod Named

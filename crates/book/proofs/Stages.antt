@@ -214,4 +214,11 @@ whole-on s o p w h e = rw e (walk s o w h .rest)
 pub inside-on : (s : List ℕ) (o p : ℕ) → Whole s o → o < length s → p ≡ next s o → p ≤ length s
 inside-on s o p w h e = rw e (walk s o w h .inside)
 
-pub ruleset onward = (whole-on, inside-on)
+-- a count of the records passed is at most the offset
+pub count-one : (s : List ℕ) (o p n : ℕ) → Whole s o → o < length s → p ≡ next s o → n ≤ o → n + 1 ≤ p
+count-one s o p n w h e l = let k = walk s o w h in omega (arith, k .spanned)
+
+pub count-same : (s : List ℕ) (o p n : ℕ) → Whole s o → o < length s → p ≡ next s o → n ≤ o → n ≤ p
+count-same s o p n w h e l = let k = walk s o w h in omega (arith, k .spanned)
+
+pub ruleset onward = (whole-on, inside-on, count-one, count-same)

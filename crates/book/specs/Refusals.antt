@@ -75,17 +75,17 @@ outOfRange s o = above s (o + 1) (limits (byteAt s o))
 unfoldable pub rangeFault : List ℕ → Fault
 rangeFault s = first (outOfRange s) (records s)
 
--- 6: which shapes of the book are cell shapes, and how many cells and blocks it has
-module _ (isCellShape : ℕ → Bool) (cells blocks : ℕ) where
-  -- "a declared cell or block number does not exist"
-  unfoldable pub valueNamed : Value → Bool
-  valueNamed (Plain n) = true
-  valueNamed (CellName n) = ltb n cells
-  valueNamed (CodeName n) = ltb n blocks
+-- 6, in a book of so many cells and blocks: "a declared cell or block number does not exist"
+unfoldable pub valueNamed : ℕ → ℕ → Value → Bool
+valueNamed cells blocks (Plain n) = true
+valueNamed cells blocks (CellName n) = ltb n cells
+valueNamed cells blocks (CodeName n) = ltb n blocks
 
+-- whose cell shapes are these
+module _ (isCellShape : ℕ → Bool) (cells blocks : ℕ) where
   -- "a cell or new names no cell shape"
   unfoldable pub cellNamed : Declared → Bool
-  cellNamed d = both (isCellShape (d .shape)) (valueNamed (d .value))
+  cellNamed d = both (isCellShape (d .shape)) (valueNamed cells blocks (d .value))
 
   unfoldable pub stepNamed : Step → Bool
   stepNamed (Put r n) = true

@@ -3,6 +3,7 @@ mod decode;
 mod faults;
 mod fields;
 mod gather;
+mod naming;
 mod tables;
 mod walk;
 

@@ -1,0 +1,206 @@
+-- Laws of refusal 6.
+--     kinds                                  the shapes' kinds, copied one by one
+--     values, steps, cells                   what a value, a step, a declared cell names
+--     danglings                              a record
+--     names                                  the loop through the book
+-- Assumes nothing.
+use mathlib.Core.Path.{_≡_, refl, sym, ap, _∙_, fun-ext}
+use mathlib.Core.Bool.{Bool, true, false, not}
+use mathlib.Core.List.{List, [], _∷_, _++_, map, map-append}
+use Prim.Native.Nat.{ℕ, zero, suc, _+_, _-_, _≤_, _<_}
+use native.Mathlib.Omega.{arith}
+use native.Mathlib.Numerals.{add-one}
+use lib.Dec.{leb, ltb, eqb}
+use lib.ListN.{length, getD, set, take, replicate, length-append, length-map, length-replicate, List·getD-map}
+use lib.Seq.{take-suc, take-suc-set, take-all}
+use borrow.Author.Tests.{eq-eqb, ne-eqb}
+use Rattle.labels.specs.declared.Label.{Label}
+use Rattle.book.specs.declared.Fault.{Fault}
+use Rattle.book.specs.declared.Fault.the-variants.{Nowhere, At}
+use Rattle.book.specs.declared.Outline.{Outline}
+use Rattle.book.specs.declared.Shape.{Shape}
+use Rattle.book.specs.declared.Value.{Value}
+use Rattle.book.specs.declared.Value.the-variants.{Plain, CellName, CodeName}
+use Rattle.book.specs.declared.Declared.{Declared}
+use Rattle.book.specs.declared.Step.{Step}
+use Rattle.book.specs.declared.Step.the-variants.{Put, Name, Code, Add, New, Read, Write, Relabel, Lower, Start, Exec}
+use Rattle.book.specs.Control.{if_then_else_, both}
+use Rattle.book.specs.Kinds.{group}
+use Rattle.book.specs.Records.{byteAt, next, recordsFrom}
+use Rattle.book.specs.Book.{shapesOf, cellsOf, blocksOf, shapeAt, declaredAt, stepAt, blockAt, parse}
+use Rattle.book.specs.Refusals.{valueNamed, cellNamed, stepNamed, dangling, dangles, noShape, hasCellShape, nameFault}
+use Rattle.book.specs.Outline.{pad, outlineOf}
+use Rattle.book.specs.Asked.{Whole, Outlined, kindOf, cellKind}
+use Rattle.book.proofs.Limits.{most-shapes}
+use Rattle.book.proofs.Sweep.{sweep-end, sweep-bad, sweep-on}
+
+module _ (shape : List Shape) (kinds : List ℕ) (i : ℕ) (inv : take i kinds ≡ map kindOf (take i shape)) where
+  pub kinds-more : i < length kinds → i < length shape
+      → take (i + 1) (set kinds i (getD shape i noShape .kind)) ≡ map kindOf (take (i + 1) shape)
+  kinds-more h k =
+      rw add-one
+      (take-suc-set kinds i (getD shape i noShape .kind) h
+      ∙ ap (λ (l : List ℕ). l ++ (getD shape i noShape .kind ∷ [])) inv
+      ∙ sym (ap (map kindOf) (take-suc shape i noShape k) ∙ map-append kindOf (take i shape) (getD shape i noShape ∷ [])))
+
+  pub kinds-end : length kinds ≤ i → length shape ≤ i → kinds ≡ map kindOf shape
+  kinds-end h k = sym (take-all i kinds h) ∙ inv ∙ ap (map kindOf) (take-all i shape k)
+
+-- an outline has room for 32 shapes
+pub shapes-sized : (s : List ℕ) (t : Outline) → Outlined s t → length (t .shape) ≡ 32
+unfolding outlineOf
+shapes-sized s t u =
+    let l : length (map (shapeAt s) (shapesOf s)) ≡ length (shapesOf s) = length-map (shapesOf s) (shapeAt s) in
+    let m = most-shapes s (u .small .few) in
+    rw (u .is) (simp (length-append, length-replicate) (omega arith))
+
+-- what a value names
+module _ (cells blocks : ℕ) (v : Value) (n : ℕ) where
+  pub value-plain : v ≡ Plain n → true ≡ valueNamed cells blocks v
+  unfolding valueNamed
+  value-plain e = simp e
+
+  pub value-cell : v ≡ CellName n → ltb n cells ≡ valueNamed cells blocks v
+  unfolding valueNamed
+  value-cell e = simp e
+
+  pub value-code : v ≡ CodeName n → ltb n blocks ≡ valueNamed cells blocks v
+  unfolding valueNamed
+  value-code e = simp e
+
+pub ruleset values = (value-plain, value-cell, value-code)
+
+module _ (f : ℕ → Bool) (cells blocks : ℕ) where
+  -- a declared cell
+  module _ (d : Declared) (b : Bool) (eb : b ≡ f (d .shape)) where
+    pub cell-yes : (c : Bool) → b ≡ true → c ≡ valueNamed cells blocks (d .value) → c ≡ cellNamed f cells blocks d
+    unfolding cellNamed both
+    cell-yes c e ec = ec ∙ simp (← eb, e)
+
+    pub cell-no : b ≡ false → false ≡ cellNamed f cells blocks d
+    unfolding cellNamed both
+    cell-no e = simp (← eb, e)
+
+  -- a step
+  module _ (p : Step) where
+    pub step-put : (r n : ℕ) → p ≡ Put r n → true ≡ stepNamed f cells blocks p
+    unfolding stepNamed
+    step-put r n e = simp e
+
+    pub step-name : (r k : ℕ) → p ≡ Name r k → ltb k cells ≡ stepNamed f cells blocks p
+    unfolding stepNamed
+    step-name r k e = simp e
+
+    pub step-code : (r b : ℕ) → p ≡ Code r b → ltb b blocks ≡ stepNamed f cells blocks p
+    unfolding stepNamed
+    step-code r b e = simp e
+
+    pub step-add : (r a b : ℕ) → p ≡ Add r a b → true ≡ stepNamed f cells blocks p
+    unfolding stepNamed
+    step-add r a b e = simp e
+
+    pub step-new : (r i a : ℕ) (x : Bool) → p ≡ New r i a → x ≡ f i → x ≡ stepNamed f cells blocks p
+    unfolding stepNamed
+    step-new r i a x e ex = ex ∙ simp e
+
+    pub step-read : (r w : ℕ) → p ≡ Read r w → true ≡ stepNamed f cells blocks p
+    unfolding stepNamed
+    step-read r w e = simp e
+
+    pub step-write : (w a : ℕ) → p ≡ Write w a → true ≡ stepNamed f cells blocks p
+    unfolding stepNamed
+    step-write w a e = simp e
+
+    pub step-start : (b : ℕ) → p ≡ Start b → ltb b blocks ≡ stepNamed f cells blocks p
+    unfolding stepNamed
+    step-start b e = simp e
+
+    pub step-exec : (w : ℕ) → p ≡ Exec w → true ≡ stepNamed f cells blocks p
+    unfolding stepNamed
+    step-exec w e = simp e
+
+    pub step-relabel : (w : ℕ) (l : Label) → p ≡ Relabel w l → true ≡ stepNamed f cells blocks p
+    unfolding stepNamed
+    step-relabel w l e = simp e
+
+    pub step-lower : (l : Label) → p ≡ Lower l → true ≡ stepNamed f cells blocks p
+    unfolding stepNamed
+    step-lower l e = simp e
+
+  -- a record
+  module _ (s : List ℕ) (n o : ℕ) where
+    pub dangle-shape : (x : ℕ) → byteAt s o ≡ 18 → x ≡ byteAt s (o + 1) → leb n x ≡ dangling f cells blocks s n o
+    unfolding dangling
+    dangle-shape x h ex = simp (h, ex)
+
+    module _ (a : byteAt s o ≡ 18 → ⊥) (g : ℕ) (eg : g ≡ group (byteAt s o)) where
+      pub dangle-cell : (d : Declared) (b : Bool) → g ≡ 3 → d ≡ declaredAt s o → b ≡ cellNamed f cells blocks d → not b ≡ dangling f cells blocks s n o
+      unfolding dangling
+      dangle-cell d b e ed eb = simp (ne-eqb _ _ a, ← eg, eq-eqb _ _ e, ← ed, ← eb)
+
+      pub dangle-step : (p : Step) (b : Bool) → g ≡ 5 → p ≡ stepAt s o → b ≡ stepNamed f cells blocks p → not b ≡ dangling f cells blocks s n o
+      unfolding dangling
+      dangle-step p b e ep eb = simp (ne-eqb _ _ a, ← eg, e, ← ep, ← eb)
+
+      pub dangle-none : (g ≡ 3 → ⊥) → (g ≡ 5 → ⊥) → false ≡ dangling f cells blocks s n o
+      unfolding dangling
+      dangle-none b c = simp (ne-eqb _ _ a, ← eg, ne-eqb _ _ b, ne-eqb _ _ c)
+
+pub ruleset cells = (cell-yes, cell-no)
+
+pub ruleset steps =
+    (step-put, step-name, step-code, step-add, step-new, step-read, step-write, step-relabel, step-lower, step-start, step-exec)
+
+pub ruleset danglings = (dangle-shape, dangle-cell, dangle-step, dangle-none)
+
+-- past the list stands the default, in an array too
+module _ {A : Type 0} (d : A) where
+  rest : (m i : ℕ) → getD (replicate m d) i d ≡ d
+  rest zero i = refl
+  rest (suc m) zero = refl
+  rest (suc m) (suc i) = rest m i
+
+  pub get-pad : (l : List A) (m i : ℕ) → getD (l ++ replicate m d) i d ≡ getD l i d
+  get-pad [] m i = rest m i
+  get-pad (x ∷ xs) m zero = refl
+  get-pad (x ∷ xs) m (suc i) = get-pad xs m i
+
+-- the loop through the book
+module _ (s : List ℕ) (t : Outline) (kinds : List ℕ) (u : Outlined s t) (ek : kinds ≡ map kindOf (t .shape)) where
+  same-kinds : (i : ℕ) → cellKind kinds i ≡ hasCellShape (parse s) i
+  unfolding outlineOf parse
+  same-kinds i =
+      ap (λ (k : ℕ). eqb k 18)
+      (ap (λ (l : List ℕ). getD l i 0) (ek ∙ ap (λ (t : Outline). map kindOf (t .shape)) (u .is))
+      ∙ List·getD-map kindOf (pad 32 noShape (map (shapeAt s) (shapesOf s))) i noShape
+      ∙ ap kindOf (get-pad noShape (map (shapeAt s) (shapesOf s)) (32 - length (map (shapeAt s) (shapesOf s))) i))
+
+  pub name-start : (cells blocks : ℕ) → cells ≡ t .counts .cells → blocks ≡ t .counts .blocks
+      → dangles (cellKind kinds) cells blocks s 0 (recordsFrom s 0) ≡ nameFault s
+  unfolding nameFault outlineOf parse
+  name-start cells blocks ec eb =
+      let x : cells ≡ length (map (declaredAt s) (cellsOf s)) = ec ∙ ap (λ (t : Outline). t .counts .cells) (u .is) ∙ sym (length-map (cellsOf s) (declaredAt s)) in
+      let y : blocks ≡ length (map (blockAt s) (blocksOf s)) = eb ∙ ap (λ (t : Outline). t .counts .blocks) (u .is) ∙ sym (length-map (blocksOf s) (blockAt s)) in
+      let z : cellKind kinds ≡ hasCellShape (parse s) = fun-ext same-kinds in
+      rw (x, y, z) refl
+
+module _ (f : ℕ → Bool) (cells blocks : ℕ) (s : List ℕ) (o n : ℕ) (z : Fault) (inv : dangles f cells blocks s n (recordsFrom s o) ≡ z) where
+  pub name-end : length s ≤ o → Nowhere ≡ z
+  unfolding dangles
+  name-end h = sweep-end _ _ _ s n o z inv h
+
+  module _ (b : Bool) (w : Whole s o) (h : o < length s) (eb : b ≡ dangling f cells blocks s n o) where
+    pub name-bad : b ≡ true → At o ≡ z
+    unfolding dangles
+    name-bad e = sweep-bad _ _ _ s n o z inv w h (sym eb ∙ e)
+
+    module _ (p g : ℕ) (e : b ≡ false) (ep : p ≡ next s o) (eg : g ≡ group (byteAt s o)) where
+      pub name-shape : g ≡ 2 → dangles f cells blocks s (n + 1) (recordsFrom s p) ≡ z
+      unfolding dangles
+      name-shape d = rw ep (simp (← eg, eq-eqb _ _ d) at (sweep-on _ _ _ s n o z inv w h (sym eb ∙ e)))
+
+      pub name-other : (g ≡ 2 → ⊥) → dangles f cells blocks s n (recordsFrom s p) ≡ z
+      unfolding dangles
+      name-other d = rw ep (simp (← eg, ne-eqb _ _ d) at (sweep-on _ _ _ s n o z inv w h (sym eb ∙ e)))
+
+pub ruleset names = (name-start, name-end, name-bad, name-shape, name-other)
