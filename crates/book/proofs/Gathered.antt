@@ -18,13 +18,13 @@ use Rattle.book.specs.declared.Counts.{Counts}
 use Rattle.book.specs.declared.Outline.{Outline}
 use Rattle.book.specs.declared.Skipped.{Skipped}
 use Rattle.book.specs.Control.{those}
-use Rattle.book.specs.Kinds.{span, group}
+use Rattle.book.specs.Kinds.{group}
 use Rattle.book.specs.Records.{byteAt, next, recordsFrom, inGroup}
 use Rattle.book.specs.Book.{groupOf, stepsFrom, shapeAt}
 use Rattle.book.specs.Refusals.{noShape}
 use Rattle.book.specs.Outline.{pad, stepsEnd, noCell, noBlock, cellEntry, blockEntry, stepCount, outlineOf}
 use Rattle.book.specs.Asked.{Whole, Small, skipped}
-use Rattle.book.proofs.Groups.{is-block}
+use Rattle.book.proofs.Groups.{block-span}
 use Rattle.book.proofs.Records.{records-end, walk}
 use Rattle.book.proofs.Filled.{Filled, fill-start, fill-room, fill-push, fill-end}
 use Rattle.book.proofs.Past.{those-hit, those-miss, PastSteps, past-steps, those-past}
@@ -143,8 +143,7 @@ module _ (s : List ℕ) (o : ℕ) (shape : List Shape) (cell : List CellEntry) (
     -- a block, and past its steps
     module _ (r : Skipped) (e : g ≡ 4) (er : r ≡ skipped s p) where
       two : p ≡ o + 2
-      unfolding span
-      two = let b = is-block (byteAt s o) (sym eg ∙ e) in ep ∙ simp b
+      two = ep ∙ ap (λ (n : ℕ). o + n) (block-span (byteAt s o) (sym eg ∙ e))
 
       steps-behind : PastSteps s p
       steps-behind = past-steps s p whole-next inside-next

@@ -9,7 +9,7 @@ use native.Mathlib.Omega.{arith}
 use lib.Dec.{leb, eqb}
 use borrow.Author.Tests.{leb-true, eqb-true, le-leb, lt-leb, ne-eqb}
 use Rattle.book.specs.Control.{if_then_else_, both}
-use Rattle.book.specs.Kinds.{group}
+use Rattle.book.specs.Kinds.{span, group}
 use Rattle.book.proofs.Tests.{both-left, both-right}
 
 module _ (k : ℕ) where
@@ -102,6 +102,11 @@ module _ (k : ℕ) where
   is-block e =
       passed 4 e (k ≡ 48) (λ z q. absurd (omega arith)) (λ z q. absurd (omega arith)) (λ z q. absurd (omega arith)) (λ z q. eqb-true k 48 q)
       (λ z q. absurd (omega arith)) (λ z. absurd (omega arith))
+
+  -- a block's record has two bytes
+  pub block-span : group k ≡ 4 → span k ≡ 2
+  unfolding span
+  block-span e = let h = is-block e in simp h
 
   pub is-step : group k ≡ 5 → (64 ≤ k) × (k ≤ 74)
   is-step e =

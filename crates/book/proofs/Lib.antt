@@ -12,3 +12,5 @@ pub mod Past
 pub mod Limits
 pub mod Gathered
 pub mod Named
+pub mod Readable
+pub mod Blocks

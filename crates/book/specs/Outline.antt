@@ -70,9 +70,12 @@ noOutline =
       block = replicate 64 noBlock;
     }
 
+abbrev pub refusedReading : ℕ → ℕ → Reading
+refusedReading n o = record { refusal = Refused n o; outline = noOutline }
+
 unfoldable pub readingOf : Refusal → List ℕ → Reading
 readingOf Passed s = record { refusal = Passed; outline = outlineOf s }
-readingOf (Refused n o) s = record { refusal = Refused n o; outline = noOutline }
+readingOf (Refused n o) s = refusedReading n o
 
 abbrev pub reading : List ℕ → Reading
 reading s = readingOf (unreadable s) s

@@ -7,8 +7,13 @@ mod naming;
 mod tables;
 mod walk;
 
+pub use decode::cell_at;
+pub use decode::step_at;
 use labels::Label;
 use labels::Trust;
+ghost use mathlib.Core.Path.{_≡_};
+ghost use Rattle.book.specs.Outline.{noOutline, refusedReading, reading};
+ghost use Rattle.book.specs.Stretch.{lost, foundBlock, stretch};
 
 // A step of a block, its fields in the record's order.
 pub enum Step {
@@ -126,4 +131,126 @@ pub enum StepAt {
 pub enum CellAt {
     NoCell,
     CellThere(Declared),
+}
+
+impl Outline {
+    // All zero: what a refusal hands back.
+    fn empty() -> Outline
+        ensures { λ r. ⌜ r ≡ noOutline ⌝ }
+    {
+        Outline {
+            c: Label(0),
+            counts: Counts {
+                shapes: 0,
+                cells: 0,
+                blocks: 0,
+                steps: 0,
+            },
+            shape: [Shape {
+                kind: 0,
+                bound: Label(0),
+                content: 0,
+                trust: Trust(0),
+            }; 32],
+            cell: [CellEntry { at: 0, shape: 0 }; 32],
+            block: [BlockEntry {
+                bound: Label(0),
+                start: 0,
+                length: 0,
+            }; 64],
+        }
+    }
+}
+
+impl Reading {
+    fn refused(number: u8, place: usize) -> Reading
+        ensures { λ r. ⌜ r ≡ refusedReading number place ⌝ }
+    {
+        let outline = Outline::empty();
+        Reading {
+            refusal: Refusal::Refused {
+                number: number,
+                place: place,
+            },
+            outline: outline,
+        }
+    }
+}
+
+// Reads a book: its refusal by 1 to 6, or its outline.
+pub fn read(book: &[u8]) -> Reading
+    ensures { λ r. ⌜ r ≡ reading (now (book .entry)) ⌝ }
+{
+    if 32768 < book.len() {
+        return Reading::refused(1, 0);
+    }
+    if let Fault::At(o) = faults::cut_fault(book) {
+        return Reading::refused(2, o);
+    }
+    if let Fault::At(o) = faults::order_fault(book) {
+        return Reading::refused(3, o);
+    }
+    if let Fault::At(o) = faults::count_fault(book) {
+        return Reading::refused(4, o);
+    }
+    if let Fault::At(o) = faults::range_fault(book) {
+        return Reading::refused(5, o);
+    }
+    let outline = gather::outline(book);
+    if let Fault::At(o) = naming::name_fault(book, outline) {
+        return Reading::refused(6, o);
+    }
+    Reading {
+        refusal: Refusal::Passed,
+        outline: outline,
+    }
+}
+
+impl Found {
+    fn lost(number: u8, place: usize) -> Found
+        ensures { λ r. ⌜ r ≡ lost number place ⌝ }
+    {
+        Found {
+            refusal: Refusal::Refused {
+                number: number,
+                place: place,
+            },
+            start: 0,
+            length: 0,
+        }
+    }
+}
+
+// Where a block's stretch stands: its refusal by 1 to 6 or 12, or its start and length.
+pub fn find_block(book: &[u8], block: usize) -> Found
+    ensures { λ r. ⌜ r ≡ foundBlock (now (book .entry)) block ⌝ }
+{
+    let r = read(book);
+    let refusal = r.refusal;
+    match refusal {
+        Refusal::Refused { number, place } => Found::lost(number, place),
+        Refusal::Passed => {
+            let t = r.outline;
+            if block < t.counts.blocks {
+                let entries = t.block;
+                let b = entries[block];
+                return Found {
+                    refusal: Refusal::Passed,
+                    start: b.start as usize,
+                    length: b.length as usize,
+                };
+            }
+            Found::lost(12, 0)
+        }
+    }
+}
+
+// A block's stretch of the book, steps only; empty after a refusal, which find_block gives.
+pub fn block_stretch(book: &[u8], block: usize) -> &[u8]
+    ensures { λ r. ⌜ now r ≡ stretch (now (book .entry)) block ⌝ }
+{
+    let f = find_block(book, block);
+    let start = f.start;
+    let end = start + f.length;
+    &book[start..end]
 }

@@ -1,0 +1,11 @@
+use Rattle.book.specs.Outline.{noOutline}
+use borrow.Author.Needs.{needs}
+use Rattle.book.proofs.Outline.empty.Statement.{statement}
+use Rattle.book.proofs.Outline.empty.Tie as tie
+
+returns : tie.Need-returns
+unfolding noOutline
+returns c = search needs
+
+pub empty-spec : {M : Type 1} → statement M
+empty-spec = tie.close (tie.spec returns)
