@@ -1,6 +1,6 @@
 -- Laws of decoding: what the code makes of the bytes is what stands there.
 --     shapes, values, steps      one set for each
---     found                      the step or the declared cell at an offset, if one stands there
+--     found, found-steps         the step or the declared cell at an offset, if one stands there
 -- Assumes nothing.
 use mathlib.Core.Path.{_≡_, refl, sym, ap, _∙_}
 use mathlib.Core.Bool.{Bool, true, false, not, _||_}
@@ -26,10 +26,11 @@ use Rattle.book.specs.declared.CellAt.{CellAt}
 use Rattle.book.specs.declared.CellAt.the-variants.{NoCell, CellThere}
 use Rattle.book.specs.Control.{if_then_else_, both, either}
 use Rattle.book.specs.Kinds.{span, group}
-use Rattle.book.specs.Records.{byteAt, numberAt, next, cut}
+use Rattle.book.specs.Records.{byteAt, numberAt, next, cut, inGroup}
 use Rattle.book.specs.Book.{shapeAt, valueOf, declaredAt, stepAt}
 use Rattle.book.specs.Stretch.{stands, stepFound, cellFound}
 use Rattle.book.proofs.Tests.{either-true}
+use Rattle.book.proofs.Records.{uncut-span, uncut-inside}
 
 module _ (s : List ℕ) (o : ℕ) where
   pub is-code-shape : (x : ℕ) → x ≡ byteAt s (o + 1) → byteAt s o ≡ 17
@@ -213,3 +214,26 @@ module _ (s : List ℕ) (o : ℕ) where
         cell-there p e ep = simp (stands-whole s 3 o d h ed w e q (bytes o .fits) (omega arith) l, ep)
 
 pub ruleset found = (step-past, cell-past, step-other, cell-other, step-short, cell-short, step-there, cell-there)
+
+-- the offset past a step that was found
+found-next : (s : List ℕ) (o n : ℕ) (p : Step) (x : StepAt) → x ≡ stepFound s o → x ≡ StepThere p n → (o < n) × (n ≤ length s)
+unfolding stepFound both
+found-next s o n p x ex e = go (ltb o (length s)) refl (inGroup s 5 o) refl (cut s o) refl
+  where
+    go : (a : Bool) → ltb o (length s) ≡ a → (b : Bool) → inGroup s 5 o ≡ b → (c : Bool) → cut s o ≡ c → (o < n) × (n ≤ length s)
+    go true h true g false q =
+        let y : StepThere (stepAt s o) (next s o) ≡ StepThere p n = sym (simp (h, g, q) at ex) ∙ e in
+        let z : next s o ≡ n = cc in
+        (omega (arith, uncut-span s o q), omega (arith, uncut-inside s o q))
+    go true h true g true q = let y : NoStep ≡ StepThere p n = sym (simp (h, g, q) at ex) ∙ e in let z : _≡_ {A = ℕ} 0 1 = cc in absurd (omega arith)
+    go true h false g c q = let y : NoStep ≡ StepThere p n = sym (simp (h, g) at ex) ∙ e in let z : _≡_ {A = ℕ} 0 1 = cc in absurd (omega arith)
+    go false h b g c q = let y : NoStep ≡ StepThere p n = sym (simp h at ex) ∙ e in let z : _≡_ {A = ℕ} 0 1 = cc in absurd (omega arith)
+
+module _ (s : List ℕ) (o n : ℕ) (p : Step) (x : StepAt) (ex : x ≡ stepFound s o) (e : x ≡ StepThere p n) where
+  pub found-inside : n ≤ length s
+  found-inside = found-next s o n p x ex e .1
+
+  pub found-falls : length s - n < length s - o
+  found-falls = let h = found-next s o n p x ex e in omega arith
+
+pub ruleset found-steps = (found-inside, found-falls)

@@ -1,0 +1,384 @@
+//! "The job book" of document 01: its records, refusals 1 to 6, and a block's stretch with
+//! refusal 12.
+
+#[cfg(test)]
+mod tests;
+
+const LONGEST_BOOK: usize = 32_768;
+const MOST_SHAPES: usize = 32;
+const MOST_CELLS: usize = 32;
+const MOST_BLOCKS: usize = 64;
+const MOST_STEPS: usize = 64;
+
+const TOP_LABEL: u8 = 15;
+const TOP_C: u8 = 14;
+const TOP_REGISTER: u8 = 7;
+
+/// Value kinds: "0 plain, 1 cell, 2 code".
+const PLAIN_VALUE: u8 = 0;
+const CELL_VALUE: u8 = 1;
+const CODE_VALUE: u8 = 2;
+
+/// "Refusals, each with a place".
+#[derive(Clone, Copy, Debug, PartialEq, Eq)]
+pub struct Refusal {
+    pub number: u8,
+    pub place: usize,
+}
+
+/// "16 plain shape, no body; 17 code shape: bound; 18 cell shape: content shape, trust."
+#[derive(Clone, Copy, Debug, PartialEq, Eq)]
+pub enum Shape {
+    Plain,
+    Code { bound: u8 },
+    Cell { content: u8, trust: u8 },
+}
+
+/// "32 cell: shape, label, value kind, number", with the offset of its record.
+#[derive(Clone, Copy, Debug, PartialEq, Eq)]
+pub struct DeclaredCell {
+    pub place: usize,
+    pub shape: u8,
+    pub label: u8,
+    pub value_kind: u8,
+    pub number: u32,
+}
+
+/// "Steps, r w a b registers 0 to 7", kinds 64 to 74 in this order.
+#[derive(Clone, Copy, Debug, PartialEq, Eq)]
+pub enum Step {
+    Put { r: u8, number: u32 },
+    Name { r: u8, cell: u8 },
+    Code { r: u8, block: u8 },
+    Add { r: u8, a: u8, b: u8 },
+    New { r: u8, shape: u8, a: u8 },
+    Read { r: u8, w: u8 },
+    Write { w: u8, a: u8 },
+    Relabel { w: u8, label: u8 },
+    Lower { label: u8 },
+    Start { block: u8 },
+    Exec { w: u8 },
+}
+
+/// "48 block: bound. Its steps follow, perhaps none." The stretch of its steps begins at the
+/// offset `start`, just past the block's record, and is `length` bytes long.
+#[derive(Clone, Debug, PartialEq, Eq)]
+pub struct Block {
+    pub bound: u8,
+    pub start: usize,
+    pub length: usize,
+    pub steps: Vec<Step>,
+}
+
+/// A readable book: none of refusals 1 to 6 holds of it.
+#[derive(Clone, Debug, Default, PartialEq, Eq)]
+pub struct Book {
+    pub c: u8,
+    pub shapes: Vec<Shape>,
+    pub cells: Vec<DeclaredCell>,
+    pub blocks: Vec<Block>,
+}
+
+/// What a record says.
+enum Content {
+    C(u8),
+    Shape(Shape),
+    Cell(DeclaredCell),
+    Block { bound: u8 },
+    Step(Step),
+}
+
+/// A record with its offset and its length in bytes.
+struct Record {
+    place: usize,
+    size: usize,
+    content: Content,
+}
+
+/// Reads a book; "a stage covers the whole book before the next begins".
+pub fn read(bytes: &[u8]) -> Result<Book, Refusal> {
+    check_length(bytes)?;
+    let records = split(bytes)?;
+    check_order(&records, bytes.len())?;
+    check_counts(&records)?;
+    check_limits(&records)?;
+    let book = assemble(&records);
+    check_names(&records, &book)?;
+    Ok(book)
+}
+
+/// "Asked for a block, a call hands back that block's stretch of the lent book, steps only":
+/// its offset and its length.
+pub fn stretch(bytes: &[u8], number: usize) -> Result<(usize, usize), Refusal> {
+    match read(bytes)?.blocks.get(number) {
+        Some(block) => Ok((block.start, block.length)),
+        None => refuse(12, 0),
+    }
+}
+
+fn refuse<T>(number: u8, place: usize) -> Result<T, Refusal> {
+    Err(Refusal { number, place })
+}
+
+/// Refusal 1: "The book is longer than 32,768 bytes."
+fn check_length(bytes: &[u8]) -> Result<(), Refusal> {
+    if bytes.len() > LONGEST_BOOK {
+        return refuse(1, 0);
+    }
+    Ok(())
+}
+
+/// Refusal 2: "A kind is none of the above, or the book ends inside a body."
+fn split(bytes: &[u8]) -> Result<Vec<Record>, Refusal> {
+    let mut records = Vec::new();
+    let mut place = 0;
+    while place < bytes.len() {
+        let Some((content, size)) = decode(place, &bytes[place..]) else {
+            return refuse(2, place);
+        };
+        records.push(Record {
+            place,
+            size,
+            content,
+        });
+        place += size;
+    }
+    Ok(records)
+}
+
+/// The record at the head of `rest`, with its size; none if its kind is unknown or its body cut.
+fn decode(place: usize, rest: &[u8]) -> Option<(Content, usize)> {
+    match *rest {
+        [1, c, ..] => Some((Content::C(c), 2)),
+        [16, ..] => Some((Content::Shape(Shape::Plain), 1)),
+        [17, bound, ..] => Some((Content::Shape(Shape::Code { bound }), 2)),
+        [18, content, trust, ..] => Some((Content::Shape(Shape::Cell { content, trust }), 3)),
+        [32, shape, label, value_kind, n0, n1, n2, n3, ..] => {
+            let number = u32::from_le_bytes([n0, n1, n2, n3]);
+            let cell = DeclaredCell {
+                place,
+                shape,
+                label,
+                value_kind,
+                number,
+            };
+            Some((Content::Cell(cell), 8))
+        }
+        [48, bound, ..] => Some((Content::Block { bound }, 2)),
+        _ => decode_step(rest).map(|(step, size)| (Content::Step(step), size)),
+    }
+}
+
+/// As `decode`, for the kinds of step.
+fn decode_step(rest: &[u8]) -> Option<(Step, usize)> {
+    match *rest {
+        [64, r, n0, n1, n2, n3, ..] => {
+            let number = u32::from_le_bytes([n0, n1, n2, n3]);
+            Some((Step::Put { r, number }, 6))
+        }
+        [65, r, cell, ..] => Some((Step::Name { r, cell }, 3)),
+        [66, r, block, ..] => Some((Step::Code { r, block }, 3)),
+        [67, r, a, b, ..] => Some((Step::Add { r, a, b }, 4)),
+        [68, r, shape, a, ..] => Some((Step::New { r, shape, a }, 4)),
+        [69, r, w, ..] => Some((Step::Read { r, w }, 3)),
+        [70, w, a, ..] => Some((Step::Write { w, a }, 3)),
+        [71, w, label, ..] => Some((Step::Relabel { w, label }, 3)),
+        [72, label, ..] => Some((Step::Lower { label }, 2)),
+        [73, block, ..] => Some((Step::Start { block }, 2)),
+        [74, w, ..] => Some((Step::Exec { w }, 2)),
+        _ => None,
+    }
+}
+
+/// Refusal 3: "The first record is missing or not C, a record is out of order, or no block
+/// stands (place: the book's length, or 0 if it is empty)."
+fn check_order(records: &[Record], length: usize) -> Result<(), Refusal> {
+    if !records.first().is_some_and(|first| is_c(&first.content)) {
+        return refuse(3, 0);
+    }
+    for pair in records.windows(2) {
+        if !may_follow(&pair[0].content, &pair[1].content) {
+            return refuse(3, pair[1].place);
+        }
+    }
+    if !records.iter().any(|record| is_block(&record.content)) {
+        return refuse(3, length);
+    }
+    Ok(())
+}
+
+fn is_c(content: &Content) -> bool {
+    matches!(content, Content::C(_))
+}
+
+fn is_block(content: &Content) -> bool {
+    matches!(content, Content::Block { .. })
+}
+
+/// "Groups stand in this order: C, shapes, cells, blocks. A step before the first block is out
+/// of order." C stands once; a step follows a block or another step.
+fn may_follow(before: &Content, next: &Content) -> bool {
+    match next {
+        Content::C(_) => false,
+        Content::Shape(_) => matches!(before, Content::C(_) | Content::Shape(_)),
+        Content::Cell(_) => {
+            matches!(before, Content::C(_) | Content::Shape(_) | Content::Cell(_))
+        }
+        Content::Block { .. } => true,
+        Content::Step(_) => matches!(before, Content::Block { .. } | Content::Step(_)),
+    }
+}
+
+/// Refusal 4: "A record is beyond 32 shapes, 32 cells, 64 blocks or 64 steps in a block."
+fn check_counts(records: &[Record]) -> Result<(), Refusal> {
+    let (mut shapes, mut cells, mut blocks, mut steps) = (0, 0, 0, 0);
+    for record in records {
+        match record.content {
+            Content::C(_) => {}
+            Content::Shape(_) => shapes += 1,
+            Content::Cell(_) => cells += 1,
+            Content::Block { .. } => (blocks, steps) = (blocks + 1, 0),
+            Content::Step(_) => steps += 1,
+        }
+        let beyond = shapes > MOST_SHAPES
+            || cells > MOST_CELLS
+            || blocks > MOST_BLOCKS
+            || steps > MOST_STEPS;
+        if beyond {
+            return refuse(4, record.place);
+        }
+    }
+    Ok(())
+}
+
+/// Refusal 5: "A label, bound or trust is above 15, C above 14, a register above 7, or a value
+/// kind above 2."
+fn check_limits(records: &[Record]) -> Result<(), Refusal> {
+    for record in records {
+        let within = match record.content {
+            Content::C(c) => c <= TOP_C,
+            Content::Shape(shape) => shape_within_limits(shape),
+            Content::Cell(cell) => cell.label <= TOP_LABEL && cell.value_kind <= CODE_VALUE,
+            Content::Block { bound } => bound <= TOP_LABEL,
+            Content::Step(step) => step_within_limits(step),
+        };
+        if !within {
+            return refuse(5, record.place);
+        }
+    }
+    Ok(())
+}
+
+fn shape_within_limits(shape: Shape) -> bool {
+    match shape {
+        Shape::Plain => true,
+        Shape::Code { bound } => bound <= TOP_LABEL,
+        Shape::Cell { trust, .. } => trust <= TOP_LABEL,
+    }
+}
+
+fn step_within_limits(step: Step) -> bool {
+    let registers = |all: &[u8]| all.iter().all(|&register| register <= TOP_REGISTER);
+    match step {
+        Step::Put { r, .. } | Step::Name { r, .. } | Step::Code { r, .. } => registers(&[r]),
+        Step::Add { r, a, b } => registers(&[r, a, b]),
+        Step::New { r, a, .. } => registers(&[r, a]),
+        Step::Read { r, w } => registers(&[r, w]),
+        Step::Write { w, a } => registers(&[w, a]),
+        Step::Relabel { w, label } => registers(&[w]) && label <= TOP_LABEL,
+        Step::Lower { label } => label <= TOP_LABEL,
+        Step::Start { .. } => true,
+        Step::Exec { w } => registers(&[w]),
+    }
+}
+
+/// The groups as lists; "each is numbered from 0".
+fn assemble(records: &[Record]) -> Book {
+    let mut book = Book::default();
+    for record in records {
+        match record.content {
+            Content::C(c) => book.c = c,
+            Content::Shape(shape) => book.shapes.push(shape),
+            Content::Cell(cell) => book.cells.push(cell),
+            Content::Block { bound } => book.blocks.push(Block {
+                bound,
+                start: record.place + record.size,
+                length: 0,
+                steps: Vec::new(),
+            }),
+            Content::Step(step) => {
+                if let Some(block) = book.blocks.last_mut() {
+                    block.length += record.size;
+                    block.steps.push(step);
+                }
+            }
+        }
+    }
+    book
+}
+
+/// Refusal 6: "A content shape is not lower-numbered than its cell shape, a cell or new names no
+/// cell shape, or a declared cell or block number does not exist."
+fn check_names(records: &[Record], book: &Book) -> Result<(), Refusal> {
+    let mut shapes_before = 0;
+    for record in records {
+        let sound = match record.content {
+            Content::C(_) | Content::Block { .. } => true,
+            Content::Shape(shape) => {
+                let own_number = shapes_before;
+                shapes_before += 1;
+                content_is_lower(shape, own_number)
+            }
+            Content::Cell(cell) => book.has_cell_shape(cell.shape) && book.value_exists(cell),
+            Content::Step(step) => book.names_exist(step),
+        };
+        if !sound {
+            return refuse(6, record.place);
+        }
+    }
+    Ok(())
+}
+
+fn content_is_lower(shape: Shape, own_number: usize) -> bool {
+    match shape {
+        Shape::Plain | Shape::Code { .. } => true,
+        Shape::Cell { content, .. } => usize::from(content) < own_number,
+    }
+}
+
+impl Book {
+    /// Whether this shape number exists and is that of a cell shape.
+    fn has_cell_shape(&self, shape: u8) -> bool {
+        matches!(
+            self.shapes.get(usize::from(shape)),
+            Some(Shape::Cell { .. })
+        )
+    }
+
+    fn has_cell(&self, number: u32) -> bool {
+        (number as usize) < self.cells.len()
+    }
+
+    fn has_block(&self, number: u32) -> bool {
+        (number as usize) < self.blocks.len()
+    }
+
+    /// "number (for kinds 1 and 2 the cell or block number)".
+    fn value_exists(&self, cell: DeclaredCell) -> bool {
+        match cell.value_kind {
+            PLAIN_VALUE => true,
+            CELL_VALUE => self.has_cell(cell.number),
+            _ => self.has_block(cell.number),
+        }
+    }
+
+    /// Whether the shape, cell or block that a step names is there.
+    fn names_exist(&self, step: Step) -> bool {
+        match step {
+            Step::Name { cell, .. } => self.has_cell(cell.into()),
+            Step::Code { block, .. } | Step::Start { block } => self.has_block(block.into()),
+            Step::New { shape, .. } => self.has_cell_shape(shape),
+            _ => true,
+        }
+    }
+}
