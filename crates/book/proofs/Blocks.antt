@@ -1,38 +1,36 @@
 -- Laws of a block of a book: where its record stands, its entry in the outline, and its stretch.
 --     Stands, stands            the records of a group stand in the book, whole
---     entry-at                  the outline's entry of a block
+--     get-pad, entry-at         an entry of an outline's array
 --     founds                    what find_block answers
 --     stretches                 the stretch, which lies in the book
 -- Assumes nothing.
 use mathlib.Core.Path.{_≡_, refl, sym, ap, _∙_}
 use mathlib.Core.Bool.{Bool, true, false}
-use mathlib.Core.List.{List, [], _∷_, map}
+use mathlib.Core.List.{List, [], _∷_, _++_, map}
 use Prim.Native.Nat.{ℕ, zero, suc, _+_, _-_, _≤_, _<_}
 use native.Mathlib.Omega.{arith}
-use lib.Dec.{ltb, eqb}
-use lib.ListN.{length, getD, take, drop}
+use lib.Dec.{ltb}
+use lib.ListN.{length, getD, take, drop, replicate}
 use borrow.Author.Tests.{lt-ltb, le-ltb, ltb-true, ltb-false, eqb-true}
 use Rattle.book.specs.declared.Fault.the-variants.{Nowhere}
 use Rattle.book.specs.declared.Refusal.{Refusal}
 use Rattle.book.specs.declared.Refusal.the-variants.{Passed, Refused}
-use Rattle.book.specs.declared.BlockEntry.{BlockEntry}
 use Rattle.book.specs.declared.Outline.{Outline}
 use Rattle.book.specs.declared.Reading.{Reading}
 use Rattle.book.specs.declared.Found.{Found}
-use Rattle.book.specs.Control.{if_then_else_, those}
+use Rattle.book.specs.Control.{those}
 use Rattle.book.specs.Kinds.{group}
 use Rattle.book.specs.Records.{byteAt, next, records, recordsFrom, inGroup}
 use Rattle.book.specs.Book.{groupOf, blocksOf}
 use Rattle.book.specs.Refusals.{cutFault, unreadable}
-use Rattle.book.specs.Outline.{stepsEnd, noBlock, blockEntry, outlineOf, readingOf, reading}
+use Rattle.book.specs.Outline.{pad, startAt, lengthAt, outlineOf, readingOf, reading}
 use Rattle.book.specs.Stretch.{lost, foundIn, foundBlock, stretch}
 use Rattle.book.specs.Asked.{Whole}
 use Rattle.book.proofs.Groups.{block-span}
 use Rattle.book.proofs.Records.{records-end, walk}
 use Rattle.book.proofs.Past.{past-steps}
 use Rattle.book.proofs.Limits.{most-blocks}
-use Rattle.book.proofs.Named.{get-pad}
-use Rattle.book.proofs.Readable.{Readable, readable}
+use Rattle.book.proofs.Readable.{readable}
 
 -- a whole record of group g stands at o
 pub record Stands (s : List ℕ) (g o : ℕ) : Type 0 where
@@ -69,15 +67,26 @@ module _ (s : List ℕ) (g : ℕ) where
   unfolding cutFault groupOf
   stands w i h = all-stand (records s) 0 refl w i h
 
+-- past the list stands the default, in an array too
+module _ {A : Type 0} (d : A) where
+  rest : (m i : ℕ) → getD (replicate m d) i d ≡ d
+  rest zero i = refl
+  rest (suc m) zero = refl
+  rest (suc m) (suc i) = rest m i
+
+  pub get-pad : (l : List A) (m i : ℕ) → getD (l ++ replicate m d) i d ≡ getD l i d
+  get-pad [] m i = rest m i
+  get-pad (x ∷ xs) m zero = refl
+  get-pad (x ∷ xs) m (suc i) = get-pad xs m i
+
 nth : {A : Type 0} (f : ℕ → A) (d : A) (l : List ℕ) (i : ℕ) → i < length l → getD (map f l) i d ≡ f (getD l i 0)
 nth f d [] i h = absurd (omega arith)
 nth f d (x ∷ xs) zero h = refl
 nth f d (x ∷ xs) (suc i) h = nth f d xs i (omega arith)
 
-module _ (s : List ℕ) (i : ℕ) (h : i < length (blocksOf s)) where
-  pub entry-at : getD (outlineOf s .block) i noBlock ≡ blockEntry s (getD (blocksOf s) i 0)
-  unfolding outlineOf
-  entry-at = get-pad noBlock (map (blockEntry s) (blocksOf s)) (64 - length (map (blockEntry s) (blocksOf s))) i ∙ nth (blockEntry s) noBlock (blocksOf s) i h
+-- an entry of an outline's array
+pub entry-at : {A : Type 0} (f : ℕ → A) (d : A) (n i : ℕ) (l : List ℕ) → i < length l → getD (pad n d (map f l)) i d ≡ f (getD l i 0)
+entry-at f d n i l h = get-pad d (map f l) (n - length (map f l)) i ∙ nth f d l i h
 
 -- what find_block answers; r is what read gave
 module _ (s : List ℕ) (r : Reading) (er : r ≡ reading s) where
@@ -124,21 +133,24 @@ module _ (s : List ℕ) (r : Reading) (er : r ≡ reading s) where
     unfolding foundIn
     found-missing f h ef = ef ∙ simp (passed e, le-ltb i (length (blocksOf s)) (omega (arith, blocks-are e)))
 
-    pub found-there : (b : BlockEntry) → i < r .outline .counts .blocks → b ≡ getD (r .outline .block) i noBlock
-        → record { refusal = Passed; start = b .start; length = b .length } ≡ foundBlock s i
-    unfolding foundIn
-    found-there b h eb =
+    pub found-there : i < r .outline .counts .blocks
+        → record { refusal = Passed; start = getD (r .outline .start) i 0; length = getD (r .outline .length) i 0 } ≡ foundBlock s i
+    unfolding foundIn outlineOf
+    found-there h =
         let l : i < length (blocksOf s) = omega (arith, blocks-are e) in
-        let x : b ≡ blockEntry s (getD (blocksOf s) i 0) = eb ∙ ap (λ (t : Outline). getD (t .block) i noBlock) (outline-is e) ∙ entry-at s i l in
-        simp (passed e, lt-ltb _ _ l, x)
+        let x : getD (r .outline .start) i 0 ≡ startAt (getD (blocksOf s) i 0)
+        = ap (λ (t : Outline). getD (t .start) i 0) (outline-is e) ∙ entry-at startAt 0 64 i (blocksOf s) l in
+        let y : getD (r .outline .length) i 0 ≡ lengthAt s (getD (blocksOf s) i 0)
+        = ap (λ (t : Outline). getD (t .length) i 0) (outline-is e) ∙ entry-at (lengthAt s) 0 64 i (blocksOf s) l in
+        simp (passed e, lt-ltb _ _ l, x, y)
 
 pub ruleset founds = (found-refused, found-missing, found-there)
 
 -- the stretch lies in the book
 module _ (s : List ℕ) (i : ℕ) where
   inside : unreadable s ≡ Passed → i < length (blocksOf s)
-      → blockEntry s (getD (blocksOf s) i 0) .start + blockEntry s (getD (blocksOf s) i 0) .length ≤ length s
-  unfolding blockEntry
+      → startAt (getD (blocksOf s) i 0) + lengthAt s (getD (blocksOf s) i 0) ≤ length s
+  unfolding lengthAt
   inside e h =
       let o = getD (blocksOf s) i 0 in
       let x = stands s 4 (readable s e .whole) i h in

@@ -2,19 +2,18 @@
 --     shapes, values, steps      one set for each
 --     found, found-steps         the step or the declared cell at an offset, if one stands there
 -- Assumes nothing.
-use mathlib.Core.Path.{_≡_, refl, sym, ap, _∙_}
-use mathlib.Core.Bool.{Bool, true, false, not, _||_}
+use mathlib.Core.Path.{_≡_, refl, sym, _∙_}
+use mathlib.Core.Bool.{Bool, true, false, _||_}
 use mathlib.Core.List.{List}
 use Prim.Native.Nat.{ℕ, _+_, _-_, _≤_, _<_}
 use native.Mathlib.Omega.{arith}
-use lib.Dec.{eqb, ltb, T, eqb→eq}
+use lib.Dec.{eqb, ltb}
 use lib.ListN.{length, replicate}
 use borrow.Author.Tests.{eq-eqb, ne-eqb, lt-ltb, le-ltb}
 use mir.Val.{Fits}
 use mir.Syntax.{w8}
 use Rattle.labels.specs.Labels.{label, trust}
 use Rattle.labels.proofs.Tables.{at}
-use Rattle.book.specs.declared.Shape.{Shape}
 use Rattle.book.specs.declared.Value.{Value}
 use Rattle.book.specs.declared.Value.the-variants.{Plain, CellName, CodeName}
 use Rattle.book.specs.declared.Declared.{Declared}
@@ -22,9 +21,8 @@ use Rattle.book.specs.declared.Step.{Step}
 use Rattle.book.specs.declared.Step.the-variants.{Put, Name, Code, Add, New, Read, Write, Relabel, Lower, Start, Exec}
 use Rattle.book.specs.declared.StepAt.{StepAt}
 use Rattle.book.specs.declared.StepAt.the-variants.{NoStep, StepThere}
-use Rattle.book.specs.declared.CellAt.{CellAt}
 use Rattle.book.specs.declared.CellAt.the-variants.{NoCell, CellThere}
-use Rattle.book.specs.Control.{if_then_else_, both, either}
+use Rattle.book.specs.Control.{both, either}
 use Rattle.book.specs.Kinds.{span, group}
 use Rattle.book.specs.Records.{byteAt, numberAt, next, cut, inGroup}
 use Rattle.book.specs.Book.{shapeAt, valueOf, declaredAt, stepAt}

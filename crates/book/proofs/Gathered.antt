@@ -4,29 +4,26 @@
 --     gather-end                                   the end of the book
 -- Assumes nothing.
 use mathlib.Core.Path.{_≡_, refl, sym, ap, _∙_}
-use mathlib.Core.List.{List, [], _∷_, _++_, map}
-use Prim.Native.Nat.{ℕ, suc, _+_, _-_, _≤_, _<_}
+use mathlib.Core.List.{List, [], _∷_, _++_, map, map-id}
+use Prim.Native.Nat.{ℕ, _+_, _-_, _*_, _≤_, _<_}
 use native.Mathlib.Omega.{arith}
-use lib.ListN.{length, set, replicate}
+use lib.ListN.{length, set, take, drop, replicate}
 use mir.Val.{Fits}
-use mir.Syntax.{w64}
+use mir.Syntax.{w16, w64}
 use Rattle.labels.specs.Labels.{label}
 use Rattle.book.specs.declared.Shape.{Shape}
-use Rattle.book.specs.declared.CellEntry.{CellEntry}
-use Rattle.book.specs.declared.BlockEntry.{BlockEntry}
 use Rattle.book.specs.declared.Counts.{Counts}
-use Rattle.book.specs.declared.Outline.{Outline}
 use Rattle.book.specs.declared.Skipped.{Skipped}
 use Rattle.book.specs.Control.{those}
 use Rattle.book.specs.Kinds.{group}
 use Rattle.book.specs.Records.{byteAt, next, recordsFrom, inGroup}
 use Rattle.book.specs.Book.{groupOf, stepsFrom, shapeAt}
-use Rattle.book.specs.Refusals.{noShape}
-use Rattle.book.specs.Outline.{pad, stepsEnd, noCell, noBlock, cellEntry, blockEntry, stepCount, outlineOf}
+use Rattle.book.specs.Outline.{stepsEnd, shapeBytes, boundAt, startAt, lengthAt, stepCount, outlineOf}
 use Rattle.book.specs.Asked.{Whole, Small, skipped}
 use Rattle.book.proofs.Groups.{block-span}
 use Rattle.book.proofs.Records.{records-end, walk}
 use Rattle.book.proofs.Filled.{Filled, fill-start, fill-room, fill-push, fill-end}
+use Rattle.book.proofs.ShapeTable.{Tabled, table-start, table-sized, table-room, table-push, table-end}
 use Rattle.book.proofs.Past.{those-hit, those-miss, PastSteps, past-steps, those-past}
 use Rattle.book.proofs.Limits.{most-shapes, most-cells, most-blocks}
 
@@ -34,31 +31,44 @@ use Rattle.book.proofs.Limits.{most-shapes, most-cells, most-blocks}
 abbrev ahead : List ℕ → ℕ → ℕ → List ℕ
 ahead s g o = those (inGroup s g) (recordsFrom s o)
 
-pub record Gathered (s : List ℕ) (o : ℕ) (shape : List Shape) (cell : List CellEntry) (block : List BlockEntry) (n : Counts) : Type 0 where
+abbrev same : ℕ → ℕ
+same o = o
+
+abbrev shapedAt : List ℕ → ℕ → ℕ
+shapedAt s o = byteAt s (o + 1)
+
+pub record Gathered (s : List ℕ) (o : ℕ) (shape cell shaped bound start size : List ℕ) (n : Counts) : Type 0 where
   pub inside : o ≤ length s
   pub whole : Whole s o
-  pub shapes : Filled noShape 32 (shapeAt s) (groupOf s 2) (ahead s 2 o) (n .shapes) shape
-  pub cells : Filled noCell 32 (cellEntry s) (groupOf s 3) (ahead s 3 o) (n .cells) cell
-  pub blocks : Filled noBlock 64 (blockEntry s) (groupOf s 4) (ahead s 4 o) (n .blocks) block
+  pub shapes : Tabled s (groupOf s 2) (ahead s 2 o) (n .shapes) shape
+  pub cells : Filled 0 32 same (groupOf s 3) (ahead s 3 o) (n .cells) cell
+  pub owners : Filled 0 32 (shapedAt s) (groupOf s 3) (ahead s 3 o) (n .cells) shaped
+  pub bounds : Filled 0 64 (boundAt s) (groupOf s 4) (ahead s 4 o) (n .blocks) bound
+  pub starts : Filled 0 64 startAt (groupOf s 4) (ahead s 4 o) (n .blocks) start
+  pub sizes : Filled 0 64 (lengthAt s) (groupOf s 4) (ahead s 4 o) (n .blocks) size
   pub steps : n .steps + stepCount s (ahead s 4 o) ≡ stepCount s (groupOf s 4)
   pub few : n .steps ≤ o
 
 pub gather-start : (s : List ℕ) → Small s
-    → Gathered s 0 (replicate 32 noShape) (replicate 32 noCell) (replicate 64 noBlock) (record { shapes = 0; cells = 0; blocks = 0; steps = 0 })
+    → Gathered s 0 (replicate 128 0) (replicate 32 0) (replicate 32 0) (replicate 64 0) (replicate 64 0) (replicate 64 0)
+    (record { shapes = 0; cells = 0; blocks = 0; steps = 0 })
 unfolding groupOf stepCount
 gather-start s h =
     record {
       inside = omega arith;
       whole = h .whole;
-      shapes = fill-start noShape 32 (shapeAt s) (groupOf s 2);
-      cells = fill-start noCell 32 (cellEntry s) (groupOf s 3);
-      blocks = fill-start noBlock 64 (blockEntry s) (groupOf s 4);
+      shapes = table-start s (groupOf s 2);
+      cells = fill-start 0 32 same (groupOf s 3);
+      owners = fill-start 0 32 (shapedAt s) (groupOf s 3);
+      bounds = fill-start 0 64 (boundAt s) (groupOf s 4);
+      starts = fill-start 0 64 startAt (groupOf s 4);
+      sizes = fill-start 0 64 (lengthAt s) (groupOf s 4);
       steps = omega arith;
       few = omega arith;
     }
 
-module _ (s : List ℕ) (o : ℕ) (shape : List Shape) (cell : List CellEntry) (block : List BlockEntry) (n : Counts)
-    (k : Gathered s o shape cell block n) (m : Small s) (h : o < length s) (g : ℕ) (eg : g ≡ group (byteAt s o)) where
+module _ (s : List ℕ) (o : ℕ) (shape cell shaped bound start size : List ℕ) (n : Counts)
+    (k : Gathered s o shape cell shaped bound start size n) (m : Small s) (h : o < length s) (g : ℕ) (eg : g ≡ group (byteAt s o)) where
   -- a record of another group leaves what is ahead of group f
   miss : (f : ℕ) → (g ≡ f → ⊥) → ahead s f o ≡ ahead s f (next s o)
   miss f d = those-miss s f o (k .whole) h (λ z. d (eg ∙ z))
@@ -70,13 +80,16 @@ module _ (s : List ℕ) (o : ℕ) (shape : List Shape) (cell : List CellEntry) (
   other a f e d z = d (sym e ∙ z)
 
   pub shape-room : g ≡ 2 → n .shapes < 32
-  shape-room e = fill-room noShape 32 (shapeAt s) (groupOf s 2) _ _ _ o (most-shapes s (m .few)) (rw (hit 2 e) at (k .shapes))
+  shape-room e = table-room s (groupOf s 2) _ _ _ o (most-shapes s (m .few)) (rw (hit 2 e) at (k .shapes))
+
+  pub shape-sized : length shape ≡ 128
+  shape-sized = table-sized s _ _ _ _ (k .shapes)
 
   pub cell-room : g ≡ 3 → n .cells < 32
-  cell-room e = fill-room noCell 32 (cellEntry s) (groupOf s 3) _ _ _ o (most-cells s (m .few)) (rw (hit 3 e) at (k .cells))
+  cell-room e = fill-room 0 32 same (groupOf s 3) _ _ _ o (most-cells s (m .few)) (rw (hit 3 e) at (k .cells))
 
   pub block-room : g ≡ 4 → n .blocks < 64
-  block-room e = fill-room noBlock 64 (blockEntry s) (groupOf s 4) _ _ _ o (most-blocks s (m .few)) (rw (hit 4 e) at (k .blocks))
+  block-room e = fill-room 0 64 (boundAt s) (groupOf s 4) _ _ _ o (most-blocks s (m .few)) (rw (hit 4 e) at (k .bounds))
 
   -- past the record, at p
   module _ (p : ℕ) (ep : p ≡ next s o) where
@@ -94,49 +107,66 @@ module _ (s : List ℕ) (o : ℕ) (shape : List Shape) (cell : List CellEntry) (
     same-steps d = rw ep (rw (miss 4 d) at (k .steps))
 
     -- and one that is not of group f leaves the array of group f
-    module _ {A : Type 0} (d : A) (size : ℕ) (entry : ℕ → A) (f i : ℕ) (arr : List A) where
-      kept : (g ≡ f → ⊥) → Filled d size entry (groupOf s f) (ahead s f o) i arr → Filled d size entry (groupOf s f) (ahead s f p) i arr
+    module _ {A : Type 0} (d : A) (most : ℕ) (entry : ℕ → A) (f i : ℕ) (arr : List A) where
+      kept : (g ≡ f → ⊥) → Filled d most entry (groupOf s f) (ahead s f o) i arr → Filled d most entry (groupOf s f) (ahead s f p) i arr
       kept e x = rw ep (rw (miss f e) at x)
 
-      pushed : g ≡ f → length (groupOf s f) ≤ size → (x : A) → x ≡ entry o → Filled d size entry (groupOf s f) (ahead s f o) i arr
-          → Filled d size entry (groupOf s f) (ahead s f p) (i + 1) (set arr i x)
-      pushed e l x ex y = rw (ep, ex) (fill-push d size entry (groupOf s f) (ahead s f (next s o)) i arr o l (rw (hit f e) at y))
+      pushed : g ≡ f → length (groupOf s f) ≤ most → (x : A) → x ≡ entry o → Filled d most entry (groupOf s f) (ahead s f o) i arr
+          → Filled d most entry (groupOf s f) (ahead s f p) (i + 1) (set arr i x)
+      pushed e l x ex y = rw (ep, ex) (fill-push d most entry (groupOf s f) (ahead s f (next s o)) i arr o l (rw (hit f e) at y))
 
-    pub gather-shape : (x : Shape) → g ≡ 2 → x ≡ shapeAt s o
-        → Gathered s p (set shape (n .shapes) x) cell block (record { shapes = n .shapes + 1; cells = n .cells; blocks = n .blocks; steps = n .steps })
-    gather-shape x e ex =
+    keep-shapes : (g ≡ 2 → ⊥) → Tabled s (groupOf s 2) (ahead s 2 p) (n .shapes) shape
+    keep-shapes e = rw ep (rw (miss 2 e) at (k .shapes))
+
+    pub gather-shape : (x : Shape) (table : List ℕ) → g ≡ 2 → x ≡ shapeAt s o
+        → table ≡ take (4 * n .shapes) shape ++ shapeBytes x ++ drop (4 * n .shapes + 4) shape
+        → Gathered s p table cell shaped bound start size (record { shapes = n .shapes + 1; cells = n .cells; blocks = n .blocks; steps = n .steps })
+    gather-shape x table e ex et =
+        let c = other 2 3 e (λ z. omega arith) in
+        let b = other 2 4 e (λ z. omega arith) in
         record {
           inside = inside-next;
           whole = whole-next;
-          shapes = pushed noShape 32 (shapeAt s) 2 _ _ e (most-shapes s (m .few)) x ex (k .shapes);
-          cells = kept noCell 32 (cellEntry s) 3 _ _ (other 2 3 e (λ z. omega arith)) (k .cells);
-          blocks = kept noBlock 64 (blockEntry s) 4 _ _ (other 2 4 e (λ z. omega arith)) (k .blocks);
-          steps = same-steps (other 2 4 e (λ z. omega arith));
+          shapes = rw ep (table-push s (groupOf s 2) (ahead s 2 (next s o)) (n .shapes) shape o x table (most-shapes s (m .few)) ex et (rw (hit 2 e) at (k .shapes)));
+          cells = kept 0 32 same 3 _ _ c (k .cells);
+          owners = kept 0 32 (shapedAt s) 3 _ _ c (k .owners);
+          bounds = kept 0 64 (boundAt s) 4 _ _ b (k .bounds);
+          starts = kept 0 64 startAt 4 _ _ b (k .starts);
+          sizes = kept 0 64 (lengthAt s) 4 _ _ b (k .sizes);
+          steps = same-steps b;
           few = few-next;
         }
 
-    pub gather-cell : (x : CellEntry) → g ≡ 3 → x ≡ cellEntry s o
-        → Gathered s p shape (set cell (n .cells) x) block (record { shapes = n .shapes; cells = n .cells + 1; blocks = n .blocks; steps = n .steps })
+    pub gather-cell : (x : ℕ) → g ≡ 3 → x ≡ byteAt s (o + 1)
+        → Gathered s p shape (set cell (n .cells) o) (set shaped (n .cells) x) bound start size
+        (record { shapes = n .shapes; cells = n .cells + 1; blocks = n .blocks; steps = n .steps })
     gather-cell x e ex =
+        let b = other 3 4 e (λ z. omega arith) in
         record {
           inside = inside-next;
           whole = whole-next;
-          shapes = kept noShape 32 (shapeAt s) 2 _ _ (other 3 2 e (λ z. omega arith)) (k .shapes);
-          cells = pushed noCell 32 (cellEntry s) 3 _ _ e (most-cells s (m .few)) x ex (k .cells);
-          blocks = kept noBlock 64 (blockEntry s) 4 _ _ (other 3 4 e (λ z. omega arith)) (k .blocks);
-          steps = same-steps (other 3 4 e (λ z. omega arith));
+          shapes = keep-shapes (other 3 2 e (λ z. omega arith));
+          cells = pushed 0 32 same 3 _ _ e (most-cells s (m .few)) o refl (k .cells);
+          owners = pushed 0 32 (shapedAt s) 3 _ _ e (most-cells s (m .few)) x ex (k .owners);
+          bounds = kept 0 64 (boundAt s) 4 _ _ b (k .bounds);
+          starts = kept 0 64 startAt 4 _ _ b (k .starts);
+          sizes = kept 0 64 (lengthAt s) 4 _ _ b (k .sizes);
+          steps = same-steps b;
           few = few-next;
         }
 
-    pub gather-other : (g ≡ 2 → ⊥) → (g ≡ 3 → ⊥) → (g ≡ 4 → ⊥) → Gathered s p shape cell block n
-    gather-other a b d =
+    pub gather-other : (g ≡ 2 → ⊥) → (g ≡ 3 → ⊥) → (g ≡ 4 → ⊥) → Gathered s p shape cell shaped bound start size n
+    gather-other a c b =
         record {
           inside = inside-next;
           whole = whole-next;
-          shapes = kept noShape 32 (shapeAt s) 2 _ _ a (k .shapes);
-          cells = kept noCell 32 (cellEntry s) 3 _ _ b (k .cells);
-          blocks = kept noBlock 64 (blockEntry s) 4 _ _ d (k .blocks);
-          steps = same-steps d;
+          shapes = keep-shapes a;
+          cells = kept 0 32 same 3 _ _ c (k .cells);
+          owners = kept 0 32 (shapedAt s) 3 _ _ c (k .owners);
+          bounds = kept 0 64 (boundAt s) 4 _ _ b (k .bounds);
+          starts = kept 0 64 startAt 4 _ _ b (k .starts);
+          sizes = kept 0 64 (lengthAt s) 4 _ _ b (k .sizes);
+          steps = same-steps b;
           few = few-next;
         }
 
@@ -157,17 +187,17 @@ module _ (s : List ℕ) (o : ℕ) (shape : List Shape) (cell : List CellEntry) (
       past : (f : ℕ) → (f ≡ 5 → ⊥) → ahead s f p ≡ ahead s f (r .at)
       past f d = those-past s f d p whole-next inside-next ∙ ap (ahead s f) (sym end-is)
 
-      block-after : o + 2 ≤ r .at
-      block-after = omega (arith, steps-behind .bytes, end-is, two)
+      pub block-after : p ≤ r .at
+      block-after = omega (arith, steps-behind .bytes, end-is)
 
       block-inside : r .at ≤ 32768
       block-inside = omega (arith, steps-behind .inside, end-is, m .short)
 
-      block-end : r .at ≡ stepsEnd s (o + 2)
-      block-end = end-is ∙ ap (stepsEnd s) two
+      pub start-word : Fits w16 p
+      start-word = record { fits = omega (arith, block-inside, block-after) }
 
-      pub block-asked : (o + 2 ≤ r .at) × (r .at ≤ 32768) × (r .at ≡ stepsEnd s (o + 2))
-      block-asked = (block-after, block-inside, block-end)
+      pub length-word : Fits w16 (r .at - p)
+      length-word = record { fits = omega (arith, block-inside) }
 
       steps-fit : n .steps + r .count ≤ r .at
       steps-fit = omega (arith, steps-behind .bytes, end-is, count-is, two, k .few)
@@ -187,43 +217,46 @@ module _ (s : List ℕ) (o : ℕ) (shape : List Shape) (cell : List CellEntry) (
           let d = rw (b, c) at a in
           omega (arith, d)
 
-      pub gather-block : (x : BlockEntry) → x ≡ blockEntry s o
-          → Gathered s (r .at) shape cell (set block (n .blocks) x) (record { shapes = n .shapes; cells = n .cells; blocks = n .blocks + 1; steps = n .steps + r .count })
+      length-is : r .at - p ≡ lengthAt s o
+      unfolding lengthAt
+      length-is = rw (end-is, two) refl
+
+      pub gather-block : (x : ℕ) → x ≡ byteAt s (o + 1)
+          → Gathered s (r .at) shape cell shaped (set bound (n .blocks) x) (set start (n .blocks) p) (set size (n .blocks) (r .at - p))
+          (record { shapes = n .shapes; cells = n .cells; blocks = n .blocks + 1; steps = n .steps + r .count })
       gather-block x ex =
+          let c = other 4 3 e (λ z. omega arith) in
+          let l = most-blocks s (m .few) in
           record {
             inside = rw end-is (steps-behind .inside);
             whole = rw end-is (steps-behind .whole);
-            shapes = rw (past 2 (λ z. omega arith)) at (kept noShape 32 (shapeAt s) 2 _ _ (other 4 2 e (λ z. omega arith)) (k .shapes));
-            cells = rw (past 3 (λ z. omega arith)) at (kept noCell 32 (cellEntry s) 3 _ _ (other 4 3 e (λ z. omega arith)) (k .cells));
-            blocks = rw (past 4 (λ z. omega arith)) at (pushed noBlock 64 (blockEntry s) 4 _ _ e (most-blocks s (m .few)) x ex (k .blocks));
+            shapes = rw (past 2 (λ z. omega arith)) at (keep-shapes (other 4 2 e (λ z. omega arith)));
+            cells = rw (past 3 (λ z. omega arith)) at (kept 0 32 same 3 _ _ c (k .cells));
+            owners = rw (past 3 (λ z. omega arith)) at (kept 0 32 (shapedAt s) 3 _ _ c (k .owners));
+            bounds = rw (past 4 (λ z. omega arith)) at (pushed 0 64 (boundAt s) 4 _ _ e l x ex (k .bounds));
+            starts = rw (past 4 (λ z. omega arith)) at (pushed 0 64 startAt 4 _ _ e l p two (k .starts));
+            sizes = rw (past 4 (λ z. omega arith)) at (pushed 0 64 (lengthAt s) 4 _ _ e l (r .at - p) length-is (k .sizes));
             steps = counted-on;
             few = steps-fit;
           }
 
 -- the end of the book
-pub gather-end : (s : List ℕ) (o : ℕ) (shape : List Shape) (cell : List CellEntry) (block : List BlockEntry) (n : Counts) (b : ℕ)
-    → Gathered s o shape cell block n → length s ≤ o → b ≡ byteAt s 1
-    → record { c = label b; counts = n; shape = shape; cell = cell; block = block } ≡ outlineOf s
+pub gather-end : (s : List ℕ) (o : ℕ) (shape cell shaped bound start size : List ℕ) (n : Counts) (b : ℕ)
+    → Gathered s o shape cell shaped bound start size n → length s ≤ o → b ≡ byteAt s 1
+    → record { c = label b; counts = n; shape = shape; cell = cell; shaped = shaped; bound = bound; start = start; length = size } ≡ outlineOf s
 unfolding outlineOf those stepCount
-gather-end s o shape cell block n b k h eb =
+gather-end s o shape cell shaped bound start size n b k h eb =
     let none : (f : ℕ) → ahead s f o ≡ [] = λ f. ap (those (inGroup s f)) (records-end s o h) in
-    let x = fill-end noShape 32 (shapeAt s) (groupOf s 2) [] (n .shapes) shape (rw (none 2) at (k .shapes)) in
-    let y = fill-end noCell 32 (cellEntry s) (groupOf s 3) [] (n .cells) cell (rw (none 3) at (k .cells)) in
-    let z = fill-end noBlock 64 (blockEntry s) (groupOf s 4) [] (n .blocks) block (rw (none 4) at (k .blocks)) in
+    let x = table-end s (groupOf s 2) [] (n .shapes) shape (rw (none 2) at (k .shapes)) in
+    let y = fill-end 0 32 same (groupOf s 3) [] (n .cells) cell (rw (none 3) at (k .cells)) in
+    let u = fill-end 0 32 (shapedAt s) (groupOf s 3) [] (n .cells) shaped (rw (none 3) at (k .owners)) in
+    let z = fill-end 0 64 (boundAt s) (groupOf s 4) [] (n .blocks) bound (rw (none 4) at (k .bounds)) in
+    let v = fill-end 0 64 startAt (groupOf s 4) [] (n .blocks) start (rw (none 4) at (k .starts)) in
+    let w = fill-end 0 64 (lengthAt s) (groupOf s 4) [] (n .blocks) size (rw (none 4) at (k .sizes)) in
+    let i : map same (groupOf s 3) ≡ groupOf s 3 = map-id (groupOf s 3) in
     let q : n .steps ≡ stepCount s (groupOf s 4) = omega (arith, rw (none 4) at (k .steps)) in
-    simp (eb, x .0, y .0, z .0, ← q, ← x .1, ← y .1, ← z .1)
-
-pub cell-entered : (s : List ℕ) (o x : ℕ) → x ≡ byteAt s (o + 1) → record { at = o; shape = x } ≡ cellEntry s o
-unfolding cellEntry
-cell-entered s o x ex = simp ex
-
-pub block-entered : (s : List ℕ) (o b e : ℕ) → b ≡ byteAt s (o + 1) → e ≡ stepsEnd s (o + 2)
-    → record { bound = label b; start = o + 2; length = e - (o + 2) } ≡ blockEntry s o
-unfolding blockEntry
-block-entered s o b e eb ee = simp (eb, ee)
-
-pub ruleset entries = (cell-entered, block-entered)
+    simp (eb, x .0, y .0, u .0, z .0, v .0, w .0, i, ← q, ← x .1, ← y .1, ← z .1)
 
 pub ruleset gathers = (gather-start, gather-shape, gather-cell, gather-other, gather-block, gather-end)
 
-pub ruleset rooms = (shape-room, cell-room, block-room, steps-word, block-falls)
+pub ruleset rooms = (shape-room, shape-sized, cell-room, block-room, block-after, start-word, length-word, steps-word, block-falls)

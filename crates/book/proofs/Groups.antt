@@ -8,7 +8,7 @@ use Prim.Native.Nat.{ℕ, _<_, _≤_}
 use native.Mathlib.Omega.{arith}
 use lib.Dec.{leb, eqb}
 use borrow.Author.Tests.{leb-true, eqb-true, le-leb, lt-leb, ne-eqb}
-use Rattle.book.specs.Control.{if_then_else_, both}
+use Rattle.book.specs.Control.{both}
 use Rattle.book.specs.Kinds.{span, group}
 use Rattle.book.proofs.Tests.{both-left, both-right}
 

@@ -8,6 +8,7 @@ pub mod Stages
 pub mod Ranges
 pub mod Decoded
 pub mod Filled
+pub mod ShapeTable
 pub mod Past
 pub mod Limits
 pub mod Gathered

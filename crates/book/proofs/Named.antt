@@ -1,18 +1,14 @@
 -- Laws of refusal 6.
---     kinds                                  the shapes' kinds, copied one by one
 --     values, steps, cells                   what a value, a step, a declared cell names
 --     danglings                              a record
 --     names                                  the loop through the book
 -- Assumes nothing.
 use mathlib.Core.Path.{_≡_, refl, sym, ap, _∙_, fun-ext}
 use mathlib.Core.Bool.{Bool, true, false, not}
-use mathlib.Core.List.{List, [], _∷_, _++_, map, map-append}
-use Prim.Native.Nat.{ℕ, zero, suc, _+_, _-_, _≤_, _<_}
-use native.Mathlib.Omega.{arith}
-use native.Mathlib.Numerals.{add-one}
+use mathlib.Core.List.{List, map}
+use Prim.Native.Nat.{ℕ, _+_, _-_, _≤_, _<_}
 use lib.Dec.{leb, ltb, eqb}
-use lib.ListN.{length, getD, set, take, replicate, length-append, length-map, length-replicate, List·getD-map}
-use lib.Seq.{take-suc, take-suc-set, take-all}
+use lib.ListN.{length, length-map}
 use borrow.Author.Tests.{eq-eqb, ne-eqb}
 use Rattle.labels.specs.declared.Label.{Label}
 use Rattle.book.specs.declared.Fault.{Fault}
@@ -24,35 +20,15 @@ use Rattle.book.specs.declared.Value.the-variants.{Plain, CellName, Code
 use Rattle.book.specs.declared.Declared.{Declared}
 use Rattle.book.specs.declared.Step.{Step}
 use Rattle.book.specs.declared.Step.the-variants.{Put, Name, Code, Add, New, Read, Write, Relabel, Lower, Start, Exec}
-use Rattle.book.specs.Control.{if_then_else_, both}
+use Rattle.book.specs.Control.{both}
 use Rattle.book.specs.Kinds.{group}
 use Rattle.book.specs.Records.{byteAt, next, recordsFrom}
 use Rattle.book.specs.Book.{shapesOf, cellsOf, blocksOf, shapeAt, declaredAt, stepAt, blockAt, parse}
-use Rattle.book.specs.Refusals.{valueNamed, cellNamed, stepNamed, dangling, dangles, noShape, hasCellShape, nameFault}
-use Rattle.book.specs.Outline.{pad, outlineOf}
-use Rattle.book.specs.Asked.{Whole, Outlined, kindOf, cellKind}
-use Rattle.book.proofs.Limits.{most-shapes}
+use Rattle.book.specs.Refusals.{valueNamed, cellNamed, stepNamed, dangling, dangles, hasCellShape, nameFault}
+use Rattle.book.specs.Outline.{shapeIn, shapesTable, outlineOf}
+use Rattle.book.specs.Asked.{Whole, Outlined, cellKind}
+use Rattle.book.proofs.ShapeTable.{shape-get}
 use Rattle.book.proofs.Sweep.{sweep-end, sweep-bad, sweep-on}
-
-module _ (shape : List Shape) (kinds : List ℕ) (i : ℕ) (inv : take i kinds ≡ map kindOf (take i shape)) where
-  pub kinds-more : i < length kinds → i < length shape
-      → take (i + 1) (set kinds i (getD shape i noShape .kind)) ≡ map kindOf (take (i + 1) shape)
-  kinds-more h k =
-      rw add-one
-      (take-suc-set kinds i (getD shape i noShape .kind) h
-      ∙ ap (λ (l : List ℕ). l ++ (getD shape i noShape .kind ∷ [])) inv
-      ∙ sym (ap (map kindOf) (take-suc shape i noShape k) ∙ map-append kindOf (take i shape) (getD shape i noShape ∷ [])))
-
-  pub kinds-end : length kinds ≤ i → length shape ≤ i → kinds ≡ map kindOf shape
-  kinds-end h k = sym (take-all i kinds h) ∙ inv ∙ ap (map kindOf) (take-all i shape k)
-
--- an outline has room for 32 shapes
-pub shapes-sized : (s : List ℕ) (t : Outline) → Outlined s t → length (t .shape) ≡ 32
-unfolding outlineOf
-shapes-sized s t u =
-    let l : length (map (shapeAt s) (shapesOf s)) ≡ length (shapesOf s) = length-map (shapesOf s) (shapeAt s) in
-    let m = most-shapes s (u .small .few) in
-    rw (u .is) (simp (length-append, length-replicate) (omega arith))
 
 -- what a value names
 module _ (cells blocks : ℕ) (v : Value) (n : ℕ) where
@@ -153,36 +129,23 @@ pub ruleset steps =
 
 pub ruleset danglings = (dangle-shape, dangle-cell, dangle-step, dangle-none)
 
--- past the list stands the default, in an array too
-module _ {A : Type 0} (d : A) where
-  rest : (m i : ℕ) → getD (replicate m d) i d ≡ d
-  rest zero i = refl
-  rest (suc m) zero = refl
-  rest (suc m) (suc i) = rest m i
-
-  pub get-pad : (l : List A) (m i : ℕ) → getD (l ++ replicate m d) i d ≡ getD l i d
-  get-pad [] m i = rest m i
-  get-pad (x ∷ xs) m zero = refl
-  get-pad (x ∷ xs) m (suc i) = get-pad xs m i
-
 -- the loop through the book
-module _ (s : List ℕ) (t : Outline) (kinds : List ℕ) (u : Outlined s t) (ek : kinds ≡ map kindOf (t .shape)) where
-  same-kinds : (i : ℕ) → cellKind kinds i ≡ hasCellShape (parse s) i
+module _ (s : List ℕ) (t : Outline) (u : Outlined s t) where
+  same-kinds : (i : ℕ) → cellKind (t .shape) i ≡ hasCellShape (parse s) i
   unfolding outlineOf parse
   same-kinds i =
-      ap (λ (k : ℕ). eqb k 18)
-      (ap (λ (l : List ℕ). getD l i 0) (ek ∙ ap (λ (t : Outline). map kindOf (t .shape)) (u .is))
-      ∙ List·getD-map kindOf (pad 32 noShape (map (shapeAt s) (shapesOf s))) i noShape
-      ∙ ap kindOf (get-pad noShape (map (shapeAt s) (shapesOf s)) (32 - length (map (shapeAt s) (shapesOf s))) i))
+      ap (λ (x : Shape). eqb (x .kind) 18)
+      (ap (λ (t : Outline). shapeIn (t .shape) i) (u .is)
+      ∙ shape-get (map (shapeAt s) (shapesOf s)) (128 - length (shapesTable (map (shapeAt s) (shapesOf s)))) i)
 
-  pub name-start : (cells blocks : ℕ) → cells ≡ t .counts .cells → blocks ≡ t .counts .blocks
-      → dangles (cellKind kinds) cells blocks s 0 (recordsFrom s 0) ≡ nameFault s
+  pub name-start : (shapes : List ℕ) (cells blocks : ℕ) → shapes ≡ t .shape → cells ≡ t .counts .cells → blocks ≡ t .counts .blocks
+      → dangles (cellKind shapes) cells blocks s 0 (recordsFrom s 0) ≡ nameFault s
   unfolding nameFault outlineOf parse
-  name-start cells blocks ec eb =
+  name-start shapes cells blocks es ec eb =
       let x : cells ≡ length (map (declaredAt s) (cellsOf s)) = ec ∙ ap (λ (t : Outline). t .counts .cells) (u .is) ∙ sym (length-map (cellsOf s) (declaredAt s)) in
       let y : blocks ≡ length (map (blockAt s) (blocksOf s)) = eb ∙ ap (λ (t : Outline). t .counts .blocks) (u .is) ∙ sym (length-map (blocksOf s) (blockAt s)) in
-      let z : cellKind kinds ≡ hasCellShape (parse s) = fun-ext same-kinds in
-      rw (x, y, z) refl
+      let z : cellKind (t .shape) ≡ hasCellShape (parse s) = fun-ext same-kinds in
+      rw (es, x, y, z) refl
 
 module _ (f : ℕ → Bool) (cells blocks : ℕ) (s : List ℕ) (o n : ℕ) (z : Fault) (inv : dangles f cells blocks s n (recordsFrom s o) ≡ z) where
   pub name-end : length s ≤ o → Nowhere ≡ z

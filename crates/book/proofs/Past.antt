@@ -6,7 +6,7 @@
 use mathlib.Core.Path.{_≡_, refl, sym, ap, _∙_}
 use mathlib.Core.Bool.{Bool, true, false}
 use mathlib.Core.List.{List, [], _∷_, _++_}
-use Prim.Native.Nat.{ℕ, suc, _+_, _≤_, _<_}
+use Prim.Native.Nat.{ℕ, _+_, _≤_, _<_}
 use native.Mathlib.Omega.{arith}
 use lib.Dec.{eqb, ltb}
 use lib.ListN.{length}
@@ -17,7 +17,7 @@ use Rattle.book.specs.Records.{byteAt, next, recordsFrom, inGroup}
 use Rattle.book.specs.Book.{stepsFrom}
 use Rattle.book.specs.Outline.{stepsEnd}
 use Rattle.book.specs.Asked.{Whole}
-use Rattle.book.proofs.Records.{records-end, walk}
+use Rattle.book.proofs.Records.{walk}
 use Rattle.book.proofs.Steps.{steps-end, steps-none, steps-more, end-more, end-none}
 
 module _ (s : List ℕ) (g o : ℕ) (w : Whole s o) (h : o < length s) where

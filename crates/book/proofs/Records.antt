@@ -2,7 +2,7 @@
 --     records-end, records-cut, records-more     the records from an offset on
 --     Walked, walk, falls                        what a whole record says of the next
 -- Assumes nothing.
-use mathlib.Core.Path.{_≡_, refl, sym, ap, _∙_}
+use mathlib.Core.Path.{_≡_, refl, ap}
 use mathlib.Core.Bool.{Bool, true, false}
 use mathlib.Core.List.{List, [], _∷_}
 use Prim.Native.Nat.{ℕ, zero, suc, _+_, _-_, _≤_, _<_}
@@ -10,9 +10,8 @@ use native.Mathlib.Omega.{arith}
 use lib.Dec.{eqb, ltb}
 use lib.ListN.{length}
 use borrow.Author.Tests.{lt-ltb, le-ltb, eqb-false, ltb-false}
-use Rattle.book.specs.declared.Fault.{Fault}
 use Rattle.book.specs.declared.Fault.the-variants.{Nowhere, At}
-use Rattle.book.specs.Control.{either, sweep, first}
+use Rattle.book.specs.Control.{sweep}
 use Rattle.book.specs.Kinds.{span}
 use Rattle.book.specs.Records.{byteAt, next, cut, recordsIn, recordsFrom}
 use Rattle.book.specs.Asked.{Whole}

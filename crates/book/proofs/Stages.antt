@@ -1,18 +1,18 @@
 -- Laws of refusals 2 to 5, as their loops go through the book. z is what the whole stage gives.
 --     cuts, orders, tallies, ranges      one set for each
 -- Assumes nothing.
-use mathlib.Core.Path.{_≡_, refl, sym, ap, _∙_}
-use mathlib.Core.Bool.{Bool, true, false, not}
+use mathlib.Core.Path.{_≡_, refl, sym, _∙_}
+use mathlib.Core.Bool.{Bool, true, false}
 use mathlib.Core.List.{List}
 use Prim.Native.Nat.{ℕ, _+_, _-_, _≤_, _<_, min}
 use native.Mathlib.Omega.{arith}
 use lib.Dec.{leb, ltb, eqb}
 use lib.ListN.{length}
-use borrow.Author.Tests.{lt-ltb, le-ltb, lt-leb, eq-eqb, ne-eqb, ltb-false}
+use borrow.Author.Tests.{lt-ltb, le-ltb, eq-eqb, ne-eqb, ltb-false}
 use Rattle.book.specs.declared.Fault.{Fault}
 use Rattle.book.specs.declared.Fault.the-variants.{Nowhere, At}
 use Rattle.book.specs.declared.Tally.{Tally}
-use Rattle.book.specs.Control.{if_then_else_, both, either, sweep, first}
+use Rattle.book.specs.Control.{both, either, sweep, first}
 use Rattle.book.specs.Kinds.{span, group}
 use Rattle.book.specs.Records.{byteAt, next, cut, recordsFrom}
 use Rattle.book.specs.Refusals.{cutFault, inOrder, misplaced, orderFault, none, counted, tooMany, beyond, countFault, outOfRange, rangeFault}

@@ -3,7 +3,6 @@
 --     skip-start, skip-more, skip-stop      a loop past them: at o, n of those from a on lie behind
 -- Assumes nothing.
 use mathlib.Core.Path.{_≡_, refl, sym, ap, _∙_}
-use mathlib.Core.Bool.{Bool, true, false}
 use mathlib.Core.List.{List, [], _∷_}
 use Prim.Native.Nat.{ℕ, _+_, _≤_, _<_}
 use native.Mathlib.Omega.{arith}
@@ -11,12 +10,12 @@ use lib.ListN.{length}
 use borrow.Author.Tests.{eq-eqb, ne-eqb}
 use Rattle.book.specs.declared.Skipped.{Skipped}
 use Rattle.book.specs.Control.{while}
-use Rattle.book.specs.Kinds.{span, group}
-use Rattle.book.specs.Records.{byteAt, next, recordsFrom}
+use Rattle.book.specs.Kinds.{group}
+use Rattle.book.specs.Records.{byteAt, next}
 use Rattle.book.specs.Book.{stepsFrom}
 use Rattle.book.specs.Outline.{endOf, stepsEnd}
 use Rattle.book.specs.Asked.{Whole, skipped}
-use Rattle.book.proofs.Records.{records-end, Walked, walk}
+use Rattle.book.proofs.Records.{records-end, walk}
 
 module _ (s : List ℕ) (o : ℕ) where
   pub steps-end : length s ≤ o → stepsFrom s o ≡ []

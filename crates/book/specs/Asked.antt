@@ -3,7 +3,7 @@
 --     limit              the largest value of a field of a kind; 255 where any byte will do
 --     Small              a book that refusals 1, 2 and 4 do not hold of
 --     Outlined           the outline of such a book
---     cellKind           by the kinds of the shapes, whether a shape is a cell shape
+--     cellKind           by the table of shapes, whether a shape is a cell shape
 --     skipped            where the steps from an offset on end, and how many they are
 -- Assumes nothing.
 use mathlib.Core.Path.{_≡_}
@@ -14,14 +14,13 @@ use lib.Dec.{eqb}
 use lib.ListN.{length, getD}
 use Rattle.book.specs.declared.Fault.the-variants.{Nowhere}
 use Rattle.book.specs.declared.Outline.{Outline}
-use Rattle.book.specs.declared.Shape.{Shape}
 use Rattle.book.specs.declared.Skipped.{Skipped}
 use Rattle.book.specs.Control.{first}
 use Rattle.book.specs.Kinds.{limits}
 use Rattle.book.specs.Records.{cut, recordsFrom}
 use Rattle.book.specs.Book.{stepsFrom}
 use Rattle.book.specs.Refusals.{countFault}
-use Rattle.book.specs.Outline.{stepsEnd, outlineOf}
+use Rattle.book.specs.Outline.{stepsEnd, shapeIn, outlineOf}
 
 abbrev pub Whole : List ℕ → ℕ → Type 0
 Whole s o = first (cut s) (recordsFrom s o) ≡ Nowhere
@@ -38,12 +37,9 @@ pub record Small (s : List ℕ) : Type 0 where
   pub whole : Whole s 0
   pub few : countFault s ≡ Nowhere
 
--- the kinds of the shapes, and whether the shape of a number is a cell shape
-abbrev pub kindOf : Shape → ℕ
-kindOf x = x .kind
-
+-- by the table of shapes, the shape of a number is a cell shape
 abbrev pub cellKind : List ℕ → ℕ → Bool
-cellKind kinds i = eqb (getD kinds i 0) 18
+cellKind table i = eqb (shapeIn table i .kind) 18
 
 -- the outline of such a book
 pub record Outlined (s : List ℕ) (t : Outline) : Type 0 where

@@ -4,8 +4,7 @@
 --     Book, parse               the book
 -- "Each is numbered from 0": a number is a place in one of these lists. Assumes nothing.
 use Prim.Native.Nat.{ℕ, _+_}
-use mathlib.Core.Bool.{Bool, true, false}
-use mathlib.Core.List.{List, [], _∷_, map}
+use mathlib.Core.List.{List, map}
 use lib.Dec.{eqb}
 use Rattle.labels.specs.declared.Label.{Label}
 use Rattle.labels.specs.Labels.{label, trust}

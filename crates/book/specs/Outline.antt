@@ -1,21 +1,21 @@
 -- What reading a book hands back: its refusal, and its outline, by which any shape, cell, block and step is reached with no further scan.
 --     pad                                    a list in an array of a fixed size
---     cellEntry, blockEntry, outlineOf       the outline of a book
+--     shapeIn, shapesTable                   a table of shapes
+--     outlineOf                              the outline of a book
 --     reading                                refusal and outline
 -- Assumes nothing.
-use Prim.Native.Nat.{ℕ, _+_, _-_}
+use Prim.Native.Nat.{ℕ, _+_, _-_, _*_}
 use mathlib.Core.List.{List, [], _∷_, _++_, map}
 use lib.ListN.{length, replicate}
-use Rattle.labels.specs.Labels.{label}
-use Rattle.book.specs.declared.CellEntry.{CellEntry}
-use Rattle.book.specs.declared.BlockEntry.{BlockEntry}
+use Rattle.labels.specs.Labels.{label, trust}
+use Rattle.book.specs.declared.Shape.{Shape}
 use Rattle.book.specs.declared.Outline.{Outline}
 use Rattle.book.specs.declared.Refusal.{Refusal}
 use Rattle.book.specs.declared.Refusal.the-variants.{Passed, Refused}
 use Rattle.book.specs.declared.Reading.{Reading}
 use Rattle.book.specs.Records.{byteAt, next}
 use Rattle.book.specs.Book.{shapesOf, cellsOf, blocksOf, stepsFrom, shapeAt}
-use Rattle.book.specs.Refusals.{noShape, unreadable}
+use Rattle.book.specs.Refusals.{unreadable}
 
 -- the list, then the default
 abbrev pub pad : {A : Type 0} → ℕ → A → List A → List A
@@ -30,17 +30,32 @@ endOf s o (p ∷ ps) = endOf s (next s p) ps
 unfoldable pub stepsEnd : List ℕ → ℕ → ℕ
 stepsEnd s o = endOf s o (stepsFrom s o)
 
-abbrev pub noCell : CellEntry
-noCell = record { at = 0; shape = 0 }
+-- a shape in a table of shapes: four bytes
+abbrev pub shapeBytes : Shape → List ℕ
+shapeBytes x = x .kind ∷ x .bound .0 ∷ x .content ∷ x .trust .0 ∷ []
 
-abbrev pub noBlock : BlockEntry
-noBlock = record { bound = label 0; start = 0; length = 0 }
+abbrev pub shapeIn : List ℕ → ℕ → Shape
+shapeIn table i =
+    record {
+      kind = byteAt table (4 * i);
+      bound = label (byteAt table (4 * i + 1));
+      content = byteAt table (4 * i + 2);
+      trust = trust (byteAt table (4 * i + 3));
+    }
 
-unfoldable pub cellEntry : List ℕ → ℕ → CellEntry
-cellEntry s o = record { at = o; shape = byteAt s (o + 1) }
+unfoldable pub shapesTable : List Shape → List ℕ
+shapesTable [] = []
+shapesTable (x ∷ xs) = shapeBytes x ++ shapesTable xs
 
-unfoldable pub blockEntry : List ℕ → ℕ → BlockEntry
-blockEntry s o = record { bound = label (byteAt s (o + 1)); start = o + 2; length = stepsEnd s (o + 2) - (o + 2) }
+-- the block at o: its bound, the offset of its first step, the bytes of its steps
+abbrev pub boundAt : List ℕ → ℕ → ℕ
+boundAt s o = byteAt s (o + 1)
+
+abbrev pub startAt : ℕ → ℕ
+startAt o = o + 2
+
+unfoldable pub lengthAt : List ℕ → ℕ → ℕ
+lengthAt s o = stepsEnd s (o + 2) - (o + 2)
 
 -- how many steps the blocks at os have
 unfoldable pub stepCount : List ℕ → List ℕ → ℕ
@@ -54,9 +69,12 @@ outlineOf s =
       c = label (byteAt s 1);
       counts =
           record { shapes = length (shapesOf s); cells = length (cellsOf s); blocks = length (blocksOf s); steps = stepCount s (blocksOf s) };
-      shape = pad 32 noShape (map (shapeAt s) (shapesOf s));
-      cell = pad 32 noCell (map (cellEntry s) (cellsOf s));
-      block = pad 64 noBlock (map (blockEntry s) (blocksOf s));
+      shape = pad 128 0 (shapesTable (map (shapeAt s) (shapesOf s)));
+      cell = pad 32 0 (cellsOf s);
+      shaped = pad 32 0 (map (λ o. byteAt s (o + 1)) (cellsOf s));
+      bound = pad 64 0 (map (boundAt s) (blocksOf s));
+      start = pad 64 0 (map startAt (blocksOf s));
+      length = pad 64 0 (map (lengthAt s) (blocksOf s));
     }
 
 -- what a refusal hands back
@@ -65,9 +83,12 @@ noOutline =
     record {
       c = label 0;
       counts = record { shapes = 0; cells = 0; blocks = 0; steps = 0 };
-      shape = replicate 32 noShape;
-      cell = replicate 32 noCell;
-      block = replicate 64 noBlock;
+      shape = replicate 128 0;
+      cell = replicate 32 0;
+      shaped = replicate 32 0;
+      bound = replicate 64 0;
+      start = replicate 64 0;
+      length = replicate 64 0;
     }
 
 abbrev pub refusedReading : ℕ → ℕ → Reading

@@ -2,8 +2,8 @@
 --     foundBlock, stretch        "Asked for a block, a call hands back that block's stretch of the lent book, steps only."
 --     stepFound, cellFound       the step, the declared cell that stands at an offset, if one does
 -- Assumes nothing.
-use Prim.Native.Nat.{ℕ, _+_}
-use mathlib.Core.Bool.{Bool, true, false, not}
+use Prim.Native.Nat.{ℕ}
+use mathlib.Core.Bool.{Bool, not}
 use mathlib.Core.List.{List}
 use lib.ListN.{length, getD, take, drop}
 use lib.Dec.{ltb}
@@ -18,7 +18,7 @@ use Rattle.book.specs.Control.{if_then_else_, both}
 use Rattle.book.specs.Records.{next, cut, inGroup}
 use Rattle.book.specs.Book.{blocksOf, stepAt, declaredAt}
 use Rattle.book.specs.Refusals.{unreadable}
-use Rattle.book.specs.Outline.{blockEntry}
+use Rattle.book.specs.Outline.{startAt, lengthAt}
 
 -- a refusal, with an empty stretch
 abbrev pub lost : ℕ → ℕ → Found
@@ -28,8 +28,8 @@ lost n o = record { refusal = Refused n o; start = 0; length = 0 }
 unfoldable pub foundIn : Refusal → List ℕ → ℕ → Found
 foundIn (Refused n o) s i = lost n o
 foundIn Passed s i =
-    let b = blockEntry s (getD (blocksOf s) i 0) in
-    if ltb i (length (blocksOf s)) then record { refusal = Passed; start = b .start; length = b .length } else lost 12 0
+    let o = getD (blocksOf s) i 0 in
+    if ltb i (length (blocksOf s)) then record { refusal = Passed; start = startAt o; length = lengthAt s o } else lost 12 0
 
 abbrev pub foundBlock : List ℕ → ℕ → Found
 foundBlock s i = foundIn (unreadable s) s i

@@ -12,6 +12,7 @@ ghost use mathlib.Core.Path.{_≡_};
 ghost use Prim.Native.Nat.{_<_};
 ghost use lib.ListN.{length};
 ghost use Rattle.book.specs.Book.{shapeAt, valueOf, declaredAt, stepAt};
+ghost use Rattle.book.specs.Outline.{shapeIn};
 ghost use Rattle.book.specs.Stretch.{stepFound, cellFound};
 
 // The shape at an offset.
@@ -43,6 +44,23 @@ pub fn decode_shape(s: &[u8], o: usize) -> Shape
         bound: Label(0),
         content: 0,
         trust: Trust(0),
+    }
+}
+
+// A shape of a table of shapes; past its end none, whose kind is 0.
+pub fn shape_in(table: &[u8], i: u8) -> Shape
+    ensures { λ r. ⌜ r ≡ shapeIn (now (table .entry)) i ⌝ }
+{
+    let at = 4 * (i as usize);
+    let kind = fields::byte(table, at);
+    let bound = fields::byte(table, at + 1);
+    let content = fields::byte(table, at + 2);
+    let trust = fields::byte(table, at + 3);
+    Shape {
+        kind: kind,
+        bound: Label(bound),
+        content: content,
+        trust: Trust(trust),
     }
 }
 

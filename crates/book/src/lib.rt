@@ -8,6 +8,7 @@ mod tables;
 mod walk;
 
 pub use decode::cell_at;
+pub use decode::shape_in;
 pub use decode::step_at;
 use labels::Label;
 use labels::Trust;
@@ -80,32 +81,25 @@ pub struct Counts {
     pub steps: usize,
 }
 
-// A declared cell: the offset of its record, and its shape.
-pub struct CellEntry {
-    pub at: u16,
-    pub shape: u8,
-}
-
-// A block: its bound, the offset of its first step, and the length of its steps in bytes.
-pub struct BlockEntry {
-    pub bound: Label,
-    pub start: u16,
-    pub length: u16,
-}
-
 // Where a run of steps ends, and how many they are.
 pub struct Skipped {
     pub at: usize,
     pub count: usize,
 }
 
-// What a book says apart from its steps and its cells' values. Unused entries are 0.
+// What a book says apart from its steps and its cells' values, in tables of numbers that can be lent. Unused entries are 0.
 pub struct Outline {
     pub c: Label,
     pub counts: Counts,
-    pub shape: [Shape; 32],
-    pub cell: [CellEntry; 32],
-    pub block: [BlockEntry; 64],
+    // Of each shape four bytes: kind, bound, content shape, trust.
+    pub shape: [u8; 128],
+    // Of each declared cell the offset of its record, and its shape.
+    pub cell: [u16; 32],
+    pub shaped: [u8; 32],
+    // Of each block its bound, the offset of its first step, and the length of its steps in bytes.
+    pub bound: [u8; 64],
+    pub start: [u16; 64],
+    pub length: [u16; 64],
 }
 
 // What reading a book gives. After a refusal the outline is 0.
@@ -146,18 +140,12 @@ impl Outline {
                 blocks: 0,
                 steps: 0,
             },
-            shape: [Shape {
-                kind: 0,
-                bound: Label(0),
-                content: 0,
-                trust: Trust(0),
-            }; 32],
-            cell: [CellEntry { at: 0, shape: 0 }; 32],
-            block: [BlockEntry {
-                bound: Label(0),
-                start: 0,
-                length: 0,
-            }; 64],
+            shape: [0u8; 128],
+            cell: [0u16; 32],
+            shaped: [0u8; 32],
+            bound: [0u8; 64],
+            start: [0u16; 64],
+            length: [0u16; 64],
         }
     }
 }
@@ -232,12 +220,12 @@ pub fn find_block(book: &[u8], block: usize) -> Found
         Refusal::Passed => {
             let t = r.outline;
             if block < t.counts.blocks {
-                let entries = t.block;
-                let b = entries[block];
+                let start = t.start[block];
+                let length = t.length[block];
                 return Found {
                     refusal: Refusal::Passed,
-                    start: b.start as usize,
-                    length: b.length as usize,
+                    start: start as usize,
+                    length: length as usize,
                 };
             }
             Found::lost(12, 0)

@@ -2,41 +2,23 @@
 use crate::Declared;
 use crate::Fault;
 use crate::Outline;
-use crate::Shape;
 use crate::Step;
 use crate::Value;
 use crate::decode;
 use crate::fields;
 use crate::walk;
 ghost use mathlib.Core.Path.{_≡_};
-ghost use mathlib.Core.List.{map};
-ghost use Prim.Native.Nat.{_+_, _<_};
-ghost use lib.Dec.{eqb};
-ghost use lib.ListN.{length, getD};
+ghost use Prim.Native.Nat.{_<_};
+ghost use lib.ListN.{length};
 ghost use Rattle.book.specs.Refusals.{valueNamed, cellNamed, stepNamed, dangling, nameFault};
-ghost use Rattle.book.specs.Asked.{Outlined, cellKind, kindOf};
-
-// The shapes' kinds.
-fn kinds_of(shape: [Shape; 32]) -> [u8; 32]
-    requires { ⌜ length shape ≡ 32 ⌝ }
-    ensures { λ r. ⌜ r ≡ map kindOf shape ⌝ }
-{
-    let mut kinds = [0u8; 32];
-    let mut i: usize = 0;
-    while i < 32 {
-        let x = shape[i];
-        kinds[i] = x.kind;
-        i = i + 1;
-    }
-    kinds
-}
+ghost use Rattle.book.specs.Asked.{Outlined, cellKind};
 
 // The shape of this number is a cell shape.
-fn is_cell_shape(kinds: &[u8], i: u8) -> bool
-    ensures { λ r. ⌜ r ≡ cellKind (now (kinds .entry)) i ⌝ }
+fn is_cell_shape(shapes: &[u8], i: u8) -> bool
+    ensures { λ r. ⌜ r ≡ cellKind (now (shapes .entry)) i ⌝ }
 {
-    let k = fields::byte(kinds, i as usize);
-    k == 18
+    let x = decode::shape_in(shapes, i);
+    x.kind == 18
 }
 
 fn value_named(value: Value, cells: usize, blocks: usize) -> bool
@@ -50,26 +32,26 @@ fn value_named(value: Value, cells: usize, blocks: usize) -> bool
 }
 
 // A declared cell names a cell shape, and a cell or block that exists.
-fn cell_named(cell: Declared, kinds: &[u8], cells: usize, blocks: usize) -> bool
-    ensures { λ r. ⌜ r ≡ cellNamed (cellKind (now (kinds .entry))) cells blocks cell ⌝ }
+fn cell_named(cell: Declared, shapes: &[u8], cells: usize, blocks: usize) -> bool
+    ensures { λ r. ⌜ r ≡ cellNamed (cellKind (now (shapes .entry))) cells blocks cell ⌝ }
 {
     let value = cell.value;
-    if is_cell_shape(kinds, cell.shape) {
+    if is_cell_shape(shapes, cell.shape) {
         return value_named(value, cells, blocks);
     }
     false
 }
 
 // A step names a cell shape, a cell or a block that exists, where it names one.
-fn step_named(step: Step, kinds: &[u8], cells: usize, blocks: usize) -> bool
-    ensures { λ r. ⌜ r ≡ stepNamed (cellKind (now (kinds .entry))) cells blocks step ⌝ }
+fn step_named(step: Step, shapes: &[u8], cells: usize, blocks: usize) -> bool
+    ensures { λ r. ⌜ r ≡ stepNamed (cellKind (now (shapes .entry))) cells blocks step ⌝ }
 {
     match step {
         Step::Put(_, _) => true,
         Step::Name(_, k) => (k as usize) < cells,
         Step::Code(_, b) => (b as usize) < blocks,
         Step::Add(_, _, _) => true,
-        Step::New(_, i, _) => is_cell_shape(kinds, i),
+        Step::New(_, i, _) => is_cell_shape(shapes, i),
         Step::Read(_, _) => true,
         Step::Write(_, _) => true,
         Step::Relabel(_, _) => true,
@@ -80,9 +62,9 @@ fn step_named(step: Step, kinds: &[u8], cells: usize, blocks: usize) -> bool
 }
 
 // The record at an offset, before which n shapes stand, names what the book does not have.
-fn is_dangling(s: &[u8], o: usize, n: usize, kinds: &[u8], cells: usize, blocks: usize) -> bool
+fn is_dangling(s: &[u8], o: usize, n: usize, shapes: &[u8], cells: usize, blocks: usize) -> bool
     requires { ⌜ o < length (now s) ⌝ }
-    ensures { λ r. ⌜ r ≡ dangling (cellKind (now (kinds .entry))) cells blocks (now (s .entry)) n o ⌝ }
+    ensures { λ r. ⌜ r ≡ dangling (cellKind (now (shapes .entry))) cells blocks (now (s .entry)) n o ⌝ }
 {
     let k = s[o];
     if k == 18 {
@@ -92,11 +74,11 @@ fn is_dangling(s: &[u8], o: usize, n: usize, kinds: &[u8], cells: usize, blocks:
     let g = fields::group_of(k);
     if g == 3 {
         let cell = decode::decode_cell(s, o);
-        return !cell_named(cell, kinds, cells, blocks);
+        return !cell_named(cell, shapes, cells, blocks);
     }
     if g == 5 {
         let step = decode::decode_step(s, o);
-        return !step_named(step, kinds, cells, blocks);
+        return !step_named(step, shapes, cells, blocks);
     }
     false
 }
@@ -106,14 +88,13 @@ pub fn name_fault(s: &[u8], t: Outline) -> Fault
     requires { ⌜ Outlined (now s) t ⌝ }
     ensures { λ r. ⌜ r ≡ nameFault (now (s .entry)) ⌝ }
 {
-    let shape = t.shape;
-    let kinds = kinds_of(shape);
+    let shapes = t.shape;
     let cells = t.counts.cells;
     let blocks = t.counts.blocks;
     let mut o: usize = 0;
     let mut n: usize = 0;
     while o < s.len() {
-        if is_dangling(s, o, n, &kinds, cells, blocks) {
+        if is_dangling(s, o, n, &shapes, cells, blocks) {
             return Fault::At(o);
         }
         let k = s[o];

@@ -1,5 +1,4 @@
 // A checksum over all that was read of a book, so that two readers can be compared by one number.
-use book::BlockEntry;
 use book::CellAt;
 use book::Outline;
 use book::Shape;
@@ -36,13 +35,12 @@ fn feed_value(sum: u32, v: Value) -> u32 {
     }
 }
 
-// The record's offset, then its fields.
-fn feed_cell(sum: u32, book: &[u8], at: u16) -> u32 {
+// The record's offset and the shape as the outline has them, then label and value as the record has them.
+fn feed_cell(sum: u32, book: &[u8], at: u16, shape: u8) -> u32 {
     match book::cell_at(book, at as usize) {
         CellAt::NoCell => sum,
         CellAt::CellThere(cell) => {
             let value = cell.value;
-            let shape = cell.shape;
             let label = cell.label;
             feed_value(feed_two(feed(sum, at as u32), shape, label.0), value)
         }
@@ -84,24 +82,21 @@ fn feed_steps(sum: u32, stretch: &[u8]) -> u32 {
 }
 
 // Bound, start and length of the stretch, then the steps.
-fn feed_block(sum: u32, book: &[u8], i: usize, b: BlockEntry) -> u32 {
-    let head = feed(
-        feed(feed_byte(sum, b.bound.0), b.start as u32),
-        b.length as u32,
-    );
+fn feed_block(sum: u32, book: &[u8], i: usize, bound: u8, start: u16, length: u16) -> u32 {
+    let head = feed(feed(feed_byte(sum, bound), start as u32), length as u32);
     feed_steps(head, book::block_stretch(book, i))
 }
 
 fn feed_shapes(sum: u32, t: Outline) -> u32 {
-    let shape = t.shape;
+    let shapes = t.shape;
     let n = t.counts.shapes;
     let mut total = sum;
-    let mut i: usize = 0;
-    while i < n {
-        if 32 <= i {
+    let mut i: u8 = 0;
+    while i < 32 {
+        if n <= i as usize {
             return total;
         }
-        total = feed_shape(total, shape[i]);
+        total = feed_shape(total, book::shape_in(&shapes, i));
         i = i + 1;
     }
     total
@@ -109,30 +104,32 @@ fn feed_shapes(sum: u32, t: Outline) -> u32 {
 
 fn feed_cells(sum: u32, book: &[u8], t: Outline) -> u32 {
     let cell = t.cell;
+    let shaped = t.shaped;
     let n = t.counts.cells;
     let mut total = sum;
     let mut i: usize = 0;
-    while i < n {
-        if 32 <= i {
+    while i < 32 {
+        if n <= i {
             return total;
         }
-        let entry = cell[i];
-        total = feed_cell(total, book, entry.at);
+        total = feed_cell(total, book, cell[i], shaped[i]);
         i = i + 1;
     }
     total
 }
 
 fn feed_blocks(sum: u32, book: &[u8], t: Outline) -> u32 {
-    let block = t.block;
+    let bound = t.bound;
+    let start = t.start;
+    let length = t.length;
     let n = t.counts.blocks;
     let mut total = sum;
     let mut i: usize = 0;
-    while i < n {
-        if 64 <= i {
+    while i < 64 {
+        if n <= i {
             return total;
         }
-        total = feed_block(total, book, i, block[i]);
+        total = feed_block(total, book, i, bound[i], start[i], length[i]);
         i = i + 1;
     }
     total

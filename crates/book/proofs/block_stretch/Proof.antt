@@ -1,9 +1,9 @@
-use Rattle.book.proofs.Blocks.{stretch-inside}
+-- `block_stretch` meets its contract. Assumes nothing.
 use native.Mathlib.Omega.{arith}
-use Rattle.book.proofs.Blocks.{stretches}
 use borrow.Author.Needs.{needs}
-use Rattle.book.proofs.block_stretch.Statement.{statement}
+use Rattle.book.proofs.Blocks.{stretch-inside, stretches}
 use Rattle.book.proofs.block_stretch.Tie as tie
+use Rattle.book.proofs.block_stretch.Statement.{statement}
 
 find-block-requires : tie.Need-find-block-requires
 find-block-requires c κs = search needs

@@ -1,9 +1,10 @@
+-- `find_block` meets its contract. Assumes nothing.
 use Prim.Native.Nat.{_<_}
 use native.Mathlib.Omega.{arith}
-use Rattle.book.proofs.Blocks.{found-room, founds}
 use borrow.Author.Needs.{needs}
-use Rattle.book.proofs.find_block.Statement.{statement}
+use Rattle.book.proofs.Blocks.{found-room, founds}
 use Rattle.book.proofs.find_block.Tie as tie
+use Rattle.book.proofs.find_block.Statement.{statement}
 
 read-requires : tie.Need-read-requires
 read-requires c κs = search needs
@@ -17,17 +18,23 @@ lost-requires c κs = search needs
 enum-told : tie.Need-enum-told
 enum-told c = search needs
 
-mul-b : tie.Need-mul-b
-mul-b c = let h : c .before .before .before .before .before .before .before .before .args .block < 64 = search found-room in omega arith
+mul-start : tie.Need-mul-start
+mul-start c = let h : c .before .before .before .before .before .before .args .block < 64 = search found-room in omega arith
 
-array-copy-out-b : tie.Need-array-copy-out-b
-array-copy-out-b c = search (found-room, needs)
+element-copy-out-start : tie.Need-element-copy-out-start
+element-copy-out-start c = let h : c .before .before .before .before .before .before .args .block < 64 = search found-room in search needs
 
-cast-t12 : tie.Need-cast-t12
-cast-t12 c = search needs
+mul-length : tie.Need-mul-length
+mul-length c = let h : c .before .before .before .before .before .before .before .args .block < 64 = search found-room in omega arith
 
-cast-t17 : tie.Need-cast-t17
-cast-t17 c = search needs
+element-copy-out-length : tie.Need-element-copy-out-length
+element-copy-out-length c = let h : c .before .before .before .before .before .before .before .args .block < 64 = search found-room in search needs
+
+cast-t13 : tie.Need-cast-t13
+cast-t13 c = search needs
+
+cast-t20 : tie.Need-cast-t20
+cast-t20 c = search needs
 
 returns : tie.Need-returns
 returns c = search founds
@@ -49,10 +56,12 @@ find-block-spec =
     enum-known-refusal
     lost-requires
     enum-told
-    mul-b
-    array-copy-out-b
-    cast-t12
-    cast-t17
+    mul-start
+    element-copy-out-start
+    mul-length
+    element-copy-out-length
+    cast-t13
+    cast-t20
     returns
     lost-requires-2
     returns-2

@@ -1,8 +1,9 @@
+-- `read` meets its contract. Assumes nothing.
 use mathlib.Core.Path.{sym, _∙_}
-use Rattle.book.proofs.Readable.{pass-whole, pass-small, pass-outlined, refuse1, refuse2, refuse3, refuse4, refuse5, refuse6, accepts}
 use borrow.Author.Needs.{needs}
-use Rattle.book.proofs.read.Statement.{statement}
+use Rattle.book.proofs.Readable.{pass-whole, pass-small, pass-outlined, refuse1, refuse2, refuse3, refuse4, refuse5, refuse6, accepts}
 use Rattle.book.proofs.read.Tie as tie
+use Rattle.book.proofs.read.Statement.{statement}
 
 refused-requires : tie.Need-refused-requires
 refused-requires c κs = search needs

@@ -1,8 +1,9 @@
-use lib.ListN.{length-take}
+-- `answer_book` meets its contract. Assumes nothing.
 use native.Mathlib.Omega.{arith}
+use lib.ListN.{length-take}
 use borrow.Author.Needs.{needs}
-use Rattle.readings.proofs.answer_book.Statement.{statement}
 use Rattle.readings.proofs.answer_book.Tie as tie
+use Rattle.readings.proofs.answer_book.Statement.{statement}
 
 fill-requires : tie.Need-fill-requires
 fill-requires c κs = search needs

@@ -1,8 +1,9 @@
-use lib.ListN.{length-take}
+-- `fill` meets its contract. Assumes nothing.
 use native.Mathlib.Omega.{arith}
+use lib.ListN.{length-take}
 use borrow.Author.Needs.{needs}
-use Rattle.readings.proofs.fill.Statement.{statement}
 use Rattle.readings.proofs.fill.Tie as tie
+use Rattle.readings.proofs.fill.Statement.{statement}
 
 returns : tie.Need-returns
 returns c = search needs

@@ -1,7 +1,8 @@
+-- `main` meets its contract. Assumes nothing.
 use Prim.Native.Nat.{_≤_, _-_}
 use borrow.Author.Needs.{needs}
-use Rattle.readings.proofs.main.Statement.{statement}
 use Rattle.readings.proofs.main.Tie as tie
+use Rattle.readings.proofs.main.Statement.{statement}
 
 abbrev Inv-loop : tie.InvT-loop
 Inv-loop index₀ index = index ≤ 1000000

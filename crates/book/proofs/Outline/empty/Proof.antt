@@ -1,7 +1,8 @@
-use Rattle.book.specs.Outline.{noOutline}
+-- `Outline::empty` meets its contract. Assumes nothing.
 use borrow.Author.Needs.{needs}
-use Rattle.book.proofs.Outline.empty.Statement.{statement}
+use Rattle.book.specs.Outline.{noOutline}
 use Rattle.book.proofs.Outline.empty.Tie as tie
+use Rattle.book.proofs.Outline.empty.Statement.{statement}
 
 returns : tie.Need-returns
 unfolding noOutline

@@ -1,6 +1,7 @@
+-- `Reading::refused` meets its contract. Assumes nothing.
 use borrow.Author.Needs.{needs}
-use Rattle.book.proofs.Reading.refused.Statement.{statement}
 use Rattle.book.proofs.Reading.refused.Tie as tie
+use Rattle.book.proofs.Reading.refused.Statement.{statement}
 
 empty-requires : tie.Need-empty-requires
 empty-requires c κs = search needs

@@ -1,7 +1,8 @@
-use Rattle.book.proofs.Decoded.{found}
+-- `decode::cell_at` meets its contract. Assumes nothing.
 use borrow.Author.Needs.{needs}
-use Rattle.book.proofs.decode.cell_at.Statement.{statement}
+use Rattle.book.proofs.Decoded.{found}
 use Rattle.book.proofs.decode.cell_at.Tie as tie
+use Rattle.book.proofs.decode.cell_at.Statement.{statement}
 
 shared-slice-read-k : tie.Need-shared-slice-read-k
 shared-slice-read-k c = search needs

@@ -1,7 +1,8 @@
-use Rattle.book.proofs.Decoded.{is-declared}
+-- `decode::decode_cell` meets its contract. Assumes nothing.
 use borrow.Author.Needs.{needs}
-use Rattle.book.proofs.decode.decode_cell.Statement.{statement}
+use Rattle.book.proofs.Decoded.{is-declared}
 use Rattle.book.proofs.decode.decode_cell.Tie as tie
+use Rattle.book.proofs.decode.decode_cell.Statement.{statement}
 
 add-byte : tie.Need-add-byte
 add-byte c = search needs

@@ -1,7 +1,8 @@
-use Rattle.book.proofs.Decoded.{shapes}
+-- `decode::decode_shape` meets its contract. Assumes nothing.
 use borrow.Author.Needs.{needs}
-use Rattle.book.proofs.decode.decode_shape.Statement.{statement}
+use Rattle.book.proofs.Decoded.{shapes}
 use Rattle.book.proofs.decode.decode_shape.Tie as tie
+use Rattle.book.proofs.decode.decode_shape.Statement.{statement}
 
 shared-slice-read-k : tie.Need-shared-slice-read-k
 shared-slice-read-k c = search needs

@@ -1,7 +1,8 @@
-use Rattle.book.proofs.Decoded.{steps}
+-- `decode::decode_step` meets its contract. Assumes nothing.
 use borrow.Author.Needs.{needs}
-use Rattle.book.proofs.decode.decode_step.Statement.{statement}
+use Rattle.book.proofs.Decoded.{steps}
 use Rattle.book.proofs.decode.decode_step.Tie as tie
+use Rattle.book.proofs.decode.decode_step.Statement.{statement}
 
 shared-slice-read-k : tie.Need-shared-slice-read-k
 shared-slice-read-k c = search needs

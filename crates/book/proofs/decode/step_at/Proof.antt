@@ -1,7 +1,8 @@
-use Rattle.book.proofs.Decoded.{found}
+-- `decode::step_at` meets its contract. Assumes nothing.
 use borrow.Author.Needs.{needs}
-use Rattle.book.proofs.decode.step_at.Statement.{statement}
+use Rattle.book.proofs.Decoded.{found}
 use Rattle.book.proofs.decode.step_at.Tie as tie
+use Rattle.book.proofs.decode.step_at.Statement.{statement}
 
 shared-slice-read-k : tie.Need-shared-slice-read-k
 shared-slice-read-k c = search needs

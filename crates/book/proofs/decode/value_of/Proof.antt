@@ -1,7 +1,7 @@
+-- `decode::value_of` meets its contract. Assumes nothing.
 use Rattle.book.proofs.Decoded.{values}
-use borrow.Author.Needs.{needs}
-use Rattle.book.proofs.decode.value_of.Statement.{statement}
 use Rattle.book.proofs.decode.value_of.Tie as tie
+use Rattle.book.proofs.decode.value_of.Statement.{statement}
 
 returns : tie.Need-returns
 returns c = search values

@@ -1,8 +1,8 @@
-use Rattle.book.proofs.Stages.{few-shapes, few-cells, few-blocks, few-steps, ones}
+-- `faults::count` meets its contract. Assumes nothing.
 use native.Mathlib.Omega.{arith}
-use borrow.Author.Needs.{needs}
-use Rattle.book.proofs.faults.count.Statement.{statement}
+use Rattle.book.proofs.Stages.{few-shapes, few-cells, few-blocks, few-steps, ones}
 use Rattle.book.proofs.faults.count.Tie as tie
+use Rattle.book.proofs.faults.count.Statement.{statement}
 
 add-m : tie.Need-add-m
 add-m c = omega (arith, few-shapes)

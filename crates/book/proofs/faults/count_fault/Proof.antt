@@ -1,16 +1,17 @@
-use Rattle.book.proofs.Stages.{tallies, onward}
-use Rattle.book.proofs.Records.{falls}
-use Rattle.book.specs.Asked.{Whole}
-use Rattle.book.specs.Refusals.{tooMany, beyond, countFault}
-use Rattle.book.specs.Records.{recordsFrom}
-use mathlib.Core.Bool.{false}
-use native.Mathlib.Omega.{arith}
-use mathlib.Core.Path.{_≡_}
+-- `faults::count_fault` meets its contract. Assumes nothing.
 use Prim.Native.Nat.{_≤_, _-_}
+use mathlib.Core.Bool.{false}
+use mathlib.Core.Path.{_≡_}
+use native.Mathlib.Omega.{arith}
 use lib.ListN.{length}
 use borrow.Author.Needs.{needs}
-use Rattle.book.proofs.faults.count_fault.Statement.{statement}
+use Rattle.book.specs.Asked.{Whole}
+use Rattle.book.specs.Records.{recordsFrom}
+use Rattle.book.specs.Refusals.{tooMany, beyond, countFault}
+use Rattle.book.proofs.Records.{falls}
+use Rattle.book.proofs.Stages.{tallies, onward}
 use Rattle.book.proofs.faults.count_fault.Tie as tie
+use Rattle.book.proofs.faults.count_fault.Statement.{statement}
 
 abbrev Inv-loop : tie.InvT-loop
 Inv-loop s o₀ n₀ o n = (o ≤ length s) × Whole s o × (tooMany n ≡ false) × (beyond s n (recordsFrom s o) ≡ countFault s)

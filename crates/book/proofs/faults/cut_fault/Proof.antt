@@ -1,14 +1,15 @@
-use Rattle.book.proofs.Stages.{cuts}
-use Rattle.book.specs.Refusals.{cutFault}
-use Rattle.book.specs.Records.{cut, recordsFrom}
-use Rattle.book.specs.Control.{first}
-use native.Mathlib.Omega.{arith}
-use mathlib.Core.Path.{_≡_}
+-- `faults::cut_fault` meets its contract. Assumes nothing.
 use Prim.Native.Nat.{_≤_, _-_}
+use mathlib.Core.Path.{_≡_}
+use native.Mathlib.Omega.{arith}
 use lib.ListN.{length}
 use borrow.Author.Needs.{needs}
-use Rattle.book.proofs.faults.cut_fault.Statement.{statement}
+use Rattle.book.specs.Control.{first}
+use Rattle.book.specs.Records.{cut, recordsFrom}
+use Rattle.book.specs.Refusals.{cutFault}
+use Rattle.book.proofs.Stages.{cuts}
 use Rattle.book.proofs.faults.cut_fault.Tie as tie
+use Rattle.book.proofs.faults.cut_fault.Statement.{statement}
 
 abbrev Inv-loop : tie.InvT-loop
 Inv-loop s o₀ o = (o ≤ length s) × (first (cut s) (recordsFrom s o) ≡ cutFault s)

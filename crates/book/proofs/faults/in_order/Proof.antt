@@ -1,7 +1,7 @@
+-- `faults::in_order` meets its contract. Assumes nothing.
 use Rattle.book.proofs.Stages.{places}
-use borrow.Author.Needs.{needs}
-use Rattle.book.proofs.faults.in_order.Statement.{statement}
 use Rattle.book.proofs.faults.in_order.Tie as tie
+use Rattle.book.proofs.faults.in_order.Statement.{statement}
 
 returns : tie.Need-returns
 returns c = search places

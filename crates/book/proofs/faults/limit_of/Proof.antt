@@ -1,18 +1,18 @@
 -- `faults::limit_of` meets its contract: the table's rule, and that of the kinds above it, are tests that antt computes. Assumes nothing.
-use mathlib.Core.Path.{_≡_}
-use mathlib.Core.Bool.{Bool, _||_, _&&_}
-use mathlib.Core.List.{List, [], _∷_}
 use Prim.Native.Nat.{ℕ, _+_, _*_, _/_, _%_, _<_, _≤_}
+use mathlib.Core.Bool.{Bool, _||_}
+use mathlib.Core.List.{List, [], _∷_}
+use mathlib.Core.Path.{_≡_}
 use native.Mathlib.Omega.{arith}
 use lib.Dec.{eqb, ltb, eqb→eq}
 use lib.ListN.{getD, replicate}
 use borrow.Author.Needs.{needs}
 use borrow.Author.Tests.{le-ltb}
 use Rattle.labels.proofs.Tables.{at}
-use Rattle.book.specs.Kinds.{limits}
 use Rattle.book.specs.Asked.{limit}
-use Rattle.book.proofs.faults.limit_of.Statement.{statement}
+use Rattle.book.specs.Kinds.{limits}
 use Rattle.book.proofs.faults.limit_of.Tie as tie
+use Rattle.book.proofs.faults.limit_of.Statement.{statement}
 
 table : List ℕ
 table =

@@ -1,15 +1,16 @@
-use Rattle.book.proofs.Stages.{orders, onward}
-use Rattle.book.proofs.Records.{falls}
-use Rattle.book.specs.Asked.{Whole}
-use Rattle.book.specs.Refusals.{misplaced, orderFault}
-use Rattle.book.specs.Records.{recordsFrom}
-use native.Mathlib.Omega.{arith}
-use mathlib.Core.Path.{_≡_}
+-- `faults::order_fault` meets its contract. Assumes nothing.
 use Prim.Native.Nat.{_≤_, _-_}
+use mathlib.Core.Path.{_≡_}
+use native.Mathlib.Omega.{arith}
 use lib.ListN.{length}
 use borrow.Author.Needs.{needs}
-use Rattle.book.proofs.faults.order_fault.Statement.{statement}
+use Rattle.book.specs.Asked.{Whole}
+use Rattle.book.specs.Records.{recordsFrom}
+use Rattle.book.specs.Refusals.{misplaced, orderFault}
+use Rattle.book.proofs.Records.{falls}
+use Rattle.book.proofs.Stages.{orders, onward}
 use Rattle.book.proofs.faults.order_fault.Tie as tie
+use Rattle.book.proofs.faults.order_fault.Statement.{statement}
 
 abbrev Inv-loop : tie.InvT-loop
 Inv-loop s o₀ p₀ o p = (o ≤ length s) × Whole s o × (misplaced s p (recordsFrom s o) ≡ orderFault s)

@@ -1,7 +1,8 @@
-use Rattle.book.proofs.Ranges.{first-above, second-above, third-above}
+-- `faults::out_of_range` meets its contract. Assumes nothing.
 use borrow.Author.Needs.{needs}
-use Rattle.book.proofs.faults.out_of_range.Statement.{statement}
+use Rattle.book.proofs.Ranges.{first-above, second-above, third-above}
 use Rattle.book.proofs.faults.out_of_range.Tie as tie
+use Rattle.book.proofs.faults.out_of_range.Statement.{statement}
 
 shared-slice-read-k : tie.Need-shared-slice-read-k
 shared-slice-read-k c = search needs

@@ -1,16 +1,17 @@
-use Rattle.book.proofs.Stages.{ranges, onward}
-use Rattle.book.proofs.Records.{falls}
-use Rattle.book.specs.Asked.{Whole}
-use Rattle.book.specs.Refusals.{outOfRange, rangeFault}
-use Rattle.book.specs.Records.{recordsFrom}
-use Rattle.book.specs.Control.{first}
-use native.Mathlib.Omega.{arith}
-use mathlib.Core.Path.{_≡_}
+-- `faults::range_fault` meets its contract. Assumes nothing.
 use Prim.Native.Nat.{_≤_, _-_}
+use mathlib.Core.Path.{_≡_}
+use native.Mathlib.Omega.{arith}
 use lib.ListN.{length}
 use borrow.Author.Needs.{needs}
-use Rattle.book.proofs.faults.range_fault.Statement.{statement}
+use Rattle.book.specs.Asked.{Whole}
+use Rattle.book.specs.Control.{first}
+use Rattle.book.specs.Records.{recordsFrom}
+use Rattle.book.specs.Refusals.{outOfRange, rangeFault}
+use Rattle.book.proofs.Records.{falls}
+use Rattle.book.proofs.Stages.{ranges, onward}
 use Rattle.book.proofs.faults.range_fault.Tie as tie
+use Rattle.book.proofs.faults.range_fault.Statement.{statement}
 
 abbrev Inv-loop : tie.InvT-loop
 Inv-loop s o₀ o = (o ≤ length s) × Whole s o × (first (outOfRange s) (recordsFrom s o) ≡ rangeFault s)

@@ -1,7 +1,7 @@
+-- `faults::too_many` meets its contract. Assumes nothing.
 use Rattle.book.proofs.Stages.{crowds}
-use borrow.Author.Needs.{needs}
-use Rattle.book.proofs.faults.too_many.Statement.{statement}
 use Rattle.book.proofs.faults.too_many.Tie as tie
+use Rattle.book.proofs.faults.too_many.Statement.{statement}
 
 returns : tie.Need-returns
 returns c = search crowds

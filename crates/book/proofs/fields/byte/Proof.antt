@@ -1,8 +1,8 @@
 -- `fields::byte` meets its contract: past the end stands the default. Assumes nothing.
 use borrow.Author.Needs.{needs}
 use Rattle.book.proofs.Lists.{past}
-use Rattle.book.proofs.fields.byte.Statement.{statement}
 use Rattle.book.proofs.fields.byte.Tie as tie
+use Rattle.book.proofs.fields.byte.Statement.{statement}
 
 shared-slice-read-result : tie.Need-shared-slice-read-result
 shared-slice-read-result c = search needs

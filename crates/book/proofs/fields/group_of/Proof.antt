@@ -1,38 +1,29 @@
+-- `fields::group_of` meets its contract. Assumes nothing.
 use Rattle.book.proofs.Groups.{groups}
-use Rattle.book.proofs.fields.group_of.Statement.{statement}
 use Rattle.book.proofs.fields.group_of.Tie as tie
-use Rattle.book.proofs.fields.group_of.Reads as reads
-use Rattle.book.proofs.fields.group_of.Lts as lts
+use Rattle.book.proofs.fields.group_of.Statement.{statement}
 
--- src/fields.rt:50:13
 returns : tie.Need-returns
 returns c = search groups
 
--- src/fields.rt:52:9
 returns-2 : tie.Need-returns-2
 returns-2 c = search groups
 
--- src/fields.rt:55:9
 returns-3 : tie.Need-returns-3
 returns-3 c = search groups
 
--- src/fields.rt:58:9
 returns-4 : tie.Need-returns-4
 returns-4 c = search groups
 
--- src/fields.rt:62:13
 returns-5 : tie.Need-returns-5
 returns-5 c = search groups
 
--- src/fields.rt:64:9
 returns-6 : tie.Need-returns-6
 returns-6 c = search groups
 
--- src/fields.rt:67:9
 returns-7 : tie.Need-returns-7
 returns-7 c = search groups
 
--- src/fields.rt:45:1
 returns-8 : tie.Need-returns-8
 returns-8 c = search groups
 

@@ -1,81 +1,60 @@
-use Rattle.book.specs.Records.{numberAt}
+-- `fields::number` meets its contract. Assumes nothing.
 use borrow.Author.Needs.{needs}
-use Rattle.book.proofs.fields.number.Statement.{statement}
+use Rattle.book.specs.Records.{numberAt}
 use Rattle.book.proofs.fields.number.Tie as tie
-use Rattle.book.proofs.fields.number.Reads as reads
-use Rattle.book.proofs.fields.number.Lts as lts
-use Rattle.book.proofs.fields.byte.Reads as byte-reads
-use Rattle.book.proofs.fields.wide.Reads as wide-reads
+use Rattle.book.proofs.fields.number.Statement.{statement}
 
--- src/fields.rt:27:18
 byte-requires : tie.Need-byte-requires
 byte-requires c κs = search needs
 
--- src/fields.rt:27:9
 wide-requires : tie.Need-wide-requires
 wide-requires c κs = search needs
 
--- src/fields.rt:28:26
 add-byte : tie.Need-add-byte
 add-byte c = search needs
 
--- src/fields.rt:28:18
 byte-requires-2 : tie.Need-byte-requires-2
 byte-requires-2 c κs = search needs
 
--- src/fields.rt:28:9
 wide-requires-2 : tie.Need-wide-requires-2
 wide-requires-2 c κs = search needs
 
--- src/fields.rt:29:26
 add-byte-2 : tie.Need-add-byte-2
 add-byte-2 c = search needs
 
--- src/fields.rt:29:18
 byte-requires-3 : tie.Need-byte-requires-3
 byte-requires-3 c κs = search needs
 
--- src/fields.rt:29:9
 wide-requires-3 : tie.Need-wide-requires-3
 wide-requires-3 c κs = search needs
 
--- src/fields.rt:30:26
 add-byte-3 : tie.Need-add-byte-3
 add-byte-3 c = search needs
 
--- src/fields.rt:30:18
 byte-requires-4 : tie.Need-byte-requires-4
 byte-requires-4 c κs = search needs
 
--- src/fields.rt:30:9
 wide-requires-4 : tie.Need-wide-requires-4
 wide-requires-4 c κs = search needs
 
--- src/fields.rt:31:9
 mul-result : tie.Need-mul-result
 mul-result c = search needs
 
--- src/fields.rt:31:5
 add-result : tie.Need-add-result
 add-result c = search needs
 
--- src/fields.rt:31:19
 mul-result-2 : tie.Need-mul-result-2
 mul-result-2 c = search needs
 
--- src/fields.rt:31:5
 add-result-2 : tie.Need-add-result-2
 add-result-2 c = search needs
 
--- src/fields.rt:31:31
 mul-result-3 : tie.Need-mul-result-3
 mul-result-3 c = search needs
 
--- src/fields.rt:31:5
 add-result-3 : tie.Need-add-result-3
 add-result-3 c = search needs
 
--- src/fields.rt:23:1
 returns : tie.Need-returns
 unfolding numberAt
 returns c = search needs

@@ -1,16 +1,15 @@
 -- `fields::span_of` meets its contract: the table's rule, and that of the kinds above it, are tests that antt computes. Assumes nothing.
-use mathlib.Core.Path.{_≡_}
+use Prim.Native.Nat.{ℕ}
 use mathlib.Core.Bool.{Bool, _||_}
 use mathlib.Core.List.{List, [], _∷_}
-use Prim.Native.Nat.{ℕ}
 use lib.Dec.{eqb, ltb, eqb→eq}
-use lib.ListN.{getD, replicate}
+use lib.ListN.{replicate}
 use borrow.Author.Needs.{needs}
 use borrow.Author.Tests.{le-ltb}
 use Rattle.labels.proofs.Tables.{at}
 use Rattle.book.specs.Kinds.{span}
-use Rattle.book.proofs.fields.span_of.Statement.{statement}
 use Rattle.book.proofs.fields.span_of.Tie as tie
+use Rattle.book.proofs.fields.span_of.Statement.{statement}
 
 table : List ℕ
 table =

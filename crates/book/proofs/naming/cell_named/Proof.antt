@@ -1,7 +1,8 @@
-use Rattle.book.proofs.Named.{cells}
+-- `naming::cell_named` meets its contract. Assumes nothing.
 use borrow.Author.Needs.{needs}
-use Rattle.book.proofs.naming.cell_named.Statement.{statement}
+use Rattle.book.proofs.Named.{cells}
 use Rattle.book.proofs.naming.cell_named.Tie as tie
+use Rattle.book.proofs.naming.cell_named.Statement.{statement}
 
 is-cell-shape-requires : tie.Need-is-cell-shape-requires
 is-cell-shape-requires c κs = search needs

@@ -1,15 +1,16 @@
-use lib.Dec.{eqb}
+-- `naming::is_cell_shape` meets its contract. Assumes nothing.
 use mathlib.Core.Path.{ap}
-use Prim.Native.Nat.{ℕ}
+use lib.Dec.{eqb}
 use borrow.Author.Needs.{needs}
-use Rattle.book.proofs.naming.is_cell_shape.Statement.{statement}
+use Rattle.book.specs.declared.Shape.{Shape}
 use Rattle.book.proofs.naming.is_cell_shape.Tie as tie
+use Rattle.book.proofs.naming.is_cell_shape.Statement.{statement}
 
-byte-requires : tie.Need-byte-requires
-byte-requires c κs = search needs
+shape-in-requires : tie.Need-shape-in-requires
+shape-in-requires c κs = search needs
 
 returns : tie.Need-returns
-returns c = ap (λ (k : ℕ). eqb k 18) (c .byte .ensures)
+returns c = ap (λ (x : Shape). eqb (x .kind) 18) (c .before .shape-in .ensures)
 
 pub is-cell-shape-spec : {M : Type 1} → statement M
-is-cell-shape-spec = tie.close (tie.spec byte-requires returns)
+is-cell-shape-spec = tie.close (tie.spec shape-in-requires returns)

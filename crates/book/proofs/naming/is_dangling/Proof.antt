@@ -1,7 +1,8 @@
-use Rattle.book.proofs.Named.{danglings}
+-- `naming::is_dangling` meets its contract. Assumes nothing.
 use borrow.Author.Needs.{needs}
-use Rattle.book.proofs.naming.is_dangling.Statement.{statement}
+use Rattle.book.proofs.Named.{danglings}
 use Rattle.book.proofs.naming.is_dangling.Tie as tie
+use Rattle.book.proofs.naming.is_dangling.Statement.{statement}
 
 shared-slice-read-k : tie.Need-shared-slice-read-k
 shared-slice-read-k c = search needs

@@ -1,31 +1,26 @@
-use Rattle.book.proofs.Named.{shapes-sized}
-use Rattle.book.proofs.Named.{name-shape, name-other}
-use Rattle.book.proofs.Named.{names}
-use Rattle.book.proofs.Stages.{onward}
-use Rattle.book.proofs.Records.{falls}
-use Rattle.book.specs.Asked.{Whole, cellKind}
-use Rattle.book.specs.Refusals.{dangles, nameFault}
-use Rattle.book.specs.Records.{recordsFrom}
-use lib.ListN.{length}
-use native.Mathlib.Omega.{arith}
-use mathlib.Core.List.{map}
-use mathlib.Core.Path.{_≡_}
+-- `naming::name_fault` meets its contract. Assumes nothing.
 use Prim.Native.Nat.{_≤_, _-_}
+use mathlib.Core.Path.{_≡_}
+use native.Mathlib.Omega.{arith}
+use lib.ListN.{length}
 use borrow.Author.Needs.{needs}
-use Rattle.book.proofs.naming.name_fault.Statement.{statement}
+use Rattle.book.specs.Asked.{Whole, cellKind}
+use Rattle.book.specs.Records.{recordsFrom}
+use Rattle.book.specs.Refusals.{dangles, nameFault}
+use Rattle.book.proofs.Named.{names, name-start, name-shape, name-other}
+use Rattle.book.proofs.Records.{falls}
+use Rattle.book.proofs.Stages.{onward}
 use Rattle.book.proofs.naming.name_fault.Tie as tie
+use Rattle.book.proofs.naming.name_fault.Statement.{statement}
 
 abbrev Inv-loop : tie.InvT-loop
-Inv-loop s kinds cells blocks o₀ n₀ o n = (o ≤ length s) × Whole s o × (n ≤ o) × (dangles (cellKind kinds) cells blocks s n (recordsFrom s o) ≡ nameFault s)
+Inv-loop s shapes cells blocks o₀ n₀ o n = (o ≤ length s) × Whole s o × (n ≤ o) × (dangles (cellKind shapes) cells blocks s n (recordsFrom s o) ≡ nameFault s)
 
 abbrev μ-loop : tie.MeasureT-loop
-μ-loop s kinds cells blocks o₀ n₀ o n = length s - o
-
-kinds-of-requires : tie.Need-kinds-of-requires Inv-loop μ-loop
-kinds-of-requires c κs = search shapes-sized
+μ-loop s shapes cells blocks o₀ n₀ o n = length s - o
 
 loop-holds : tie.Need-loop-holds Inv-loop μ-loop
-loop-holds c = (omega arith, search needs, omega arith, search names)
+loop-holds c = (omega arith, search needs, omega arith, search name-start)
 
 slice-aggregate-is-dangling : tie.Need-slice-aggregate-is-dangling Inv-loop μ-loop
 slice-aggregate-is-dangling c = search needs
@@ -69,7 +64,6 @@ name-fault-spec =
     (tie.spec
     Inv-loop
     μ-loop
-    kinds-of-requires
     loop-holds
     slice-aggregate-is-dangling
     is-dangling-requires

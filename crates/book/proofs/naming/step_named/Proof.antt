@@ -1,7 +1,8 @@
-use Rattle.book.proofs.Named.{steps}
+-- `naming::step_named` meets its contract. Assumes nothing.
 use borrow.Author.Needs.{needs}
-use Rattle.book.proofs.naming.step_named.Statement.{statement}
+use Rattle.book.proofs.Named.{steps}
 use Rattle.book.proofs.naming.step_named.Tie as tie
+use Rattle.book.proofs.naming.step_named.Statement.{statement}
 
 enum-told : tie.Need-enum-told
 enum-told c = search needs

@@ -1,7 +1,8 @@
-use Rattle.book.proofs.Named.{values}
+-- `naming::value_named` meets its contract. Assumes nothing.
 use borrow.Author.Needs.{needs}
-use Rattle.book.proofs.naming.value_named.Statement.{statement}
+use Rattle.book.proofs.Named.{values}
 use Rattle.book.proofs.naming.value_named.Tie as tie
+use Rattle.book.proofs.naming.value_named.Statement.{statement}
 
 enum-told : tie.Need-enum-told
 enum-told c = search needs

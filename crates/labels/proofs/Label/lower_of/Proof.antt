@@ -1,17 +1,17 @@
 -- `Label::lower_of` meets its contract: the table's rule, one test that antt computes, gives the entry at row times 16 plus column.
 -- Assumes nothing.
-use Prim.Native.Nat.{ℕ, min, _+_, _*_, _/_, _%_, _<_, _≤_}
-use mathlib.Core.Path.{_≡_, _∙_, ap}
+use Prim.Native.Nat.{ℕ, min, _+_, _*_, _/_, _%_, _≤_}
 use mathlib.Core.Bool.{Bool}
 use mathlib.Core.List.{List, [], _∷_}
+use mathlib.Core.Path.{_≡_, ap}
+use native.Mathlib.Omega.{arith}
 use lib.Dec.{eqb, eqb→eq}
 use lib.ListN.{getD}
-use native.Mathlib.Omega.{arith}
 use borrow.Author.Needs.{needs}
 use Rattle.labels.specs.Labels.{label, lower}
 use Rattle.labels.proofs.Tables.{at}
-use Rattle.labels.proofs.Label.lower_of.Statement.{statement}
 use Rattle.labels.proofs.Label.lower_of.Tie as tie
+use Rattle.labels.proofs.Label.lower_of.Statement.{statement}
 
 table : List ℕ
 table =

@@ -1,13 +1,14 @@
+-- `sum::feed_cells` meets its contract. Assumes nothing.
 use Prim.Native.Nat.{_≤_, _-_}
 use borrow.Author.Needs.{needs}
-use Rattle.readings.proofs.sum.feed_cells.Statement.{statement}
 use Rattle.readings.proofs.sum.feed_cells.Tie as tie
+use Rattle.readings.proofs.sum.feed_cells.Statement.{statement}
 
 abbrev Inv-loop : tie.InvT-loop
-Inv-loop sum book cell n total₀ i₀ total i = i ≤ 32
+Inv-loop sum book cell shaped n total₀ i₀ total i = i ≤ 32
 
 abbrev μ-loop : tie.MeasureT-loop
-μ-loop sum book cell n total₀ i₀ total i = 32 - i
+μ-loop sum book cell shaped n total₀ i₀ total i = 32 - i
 
 loop-holds : tie.Need-loop-holds Inv-loop μ-loop
 loop-holds c = search needs
@@ -15,11 +16,14 @@ loop-holds c = search needs
 returns : tie.Need-returns Inv-loop μ-loop
 returns c = search needs
 
-mul-entry : tie.Need-mul-entry Inv-loop μ-loop
-mul-entry c = search needs
+mul-feed-cell : tie.Need-mul-feed-cell Inv-loop μ-loop
+mul-feed-cell c = search needs
 
-array-copy-out-entry : tie.Need-array-copy-out-entry Inv-loop μ-loop
-array-copy-out-entry c = search needs
+array-read-feed-cell : tie.Need-array-read-feed-cell Inv-loop μ-loop
+array-read-feed-cell c = search needs
+
+array-read-feed-cell-2 : tie.Need-array-read-feed-cell-2 Inv-loop μ-loop
+array-read-feed-cell-2 c = search needs
 
 feed-cell-requires : tie.Need-feed-cell-requires Inv-loop μ-loop
 feed-cell-requires c κs = search needs
@@ -44,8 +48,9 @@ feed-cells-spec =
     μ-loop
     loop-holds
     returns
-    mul-entry
-    array-copy-out-entry
+    mul-feed-cell
+    array-read-feed-cell
+    array-read-feed-cell-2
     feed-cell-requires
     add-i
     loop-less

@@ -1,9 +1,10 @@
-use Rattle.book.proofs.Decoded.{found-steps}
-use lib.ListN.{length}
+-- `sum::feed_steps` meets its contract. Assumes nothing.
 use Prim.Native.Nat.{_≤_, _-_}
+use lib.ListN.{length}
 use borrow.Author.Needs.{needs}
-use Rattle.readings.proofs.sum.feed_steps.Statement.{statement}
+use Rattle.book.proofs.Decoded.{found-steps}
 use Rattle.readings.proofs.sum.feed_steps.Tie as tie
+use Rattle.readings.proofs.sum.feed_steps.Statement.{statement}
 
 abbrev Inv-loop : tie.InvT-loop
 Inv-loop sum stretch total₀ o₀ total o = o ≤ length stretch
