@@ -5,7 +5,7 @@
 --     isMet, isHigh          a trust against a label: the only comparisons between the two
 -- Assumes nothing.
 use Prim.Native.Nat.{ℕ, min}
-use mathlib.Core.Bool.{Bool}
+use mathlib.Core.Bool.{Bool, true, false}
 use lib.Dec.{leb, ltb}
 use Rattle.labels.specs.declared.Label.{Label}
 use Rattle.labels.specs.declared.Trust.{Trust}
@@ -35,3 +35,15 @@ isMet t l = leb (t .0) (l .0)
 -- the trust is above C: "a trust or effect at or below C counts as 0 (\"low\")"
 abbrev pub isHigh : Trust → Label → Bool
 isHigh t c = ltb (c .0) (t .0)
+
+-- the trust is at least the label
+abbrev pub covers : Trust → Label → Bool
+covers t l = leb (l .0) (t .0)
+
+-- "In typing, a trust or effect at or below C counts as 0"
+unfoldable pub normal : Label → Trust → Trust
+normal c t = elim (isHigh t c) [ true ↦ t | false ↦ trust 0 ]
+
+-- the smaller of a trust and a label, as an effect
+unfoldable pub capped : Trust → Label → Label
+capped t l = label (min (t .0) (l .0))

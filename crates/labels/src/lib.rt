@@ -3,7 +3,7 @@
 mod table;
 
 ghost use mathlib.Core.Path.{_≡_};
-ghost use Rattle.labels.specs.Labels.{lower, reaches, isAbove, isMet, isHigh};
+ghost use Rattle.labels.specs.Labels.{lower, reaches, isAbove, isMet, isHigh, covers, normal, capped};
 
 // A label: 0 to 15, higher is more trusted. Labels of cells and jobs, bounds, C and the members of histories.
 pub struct Label(pub u8);
@@ -63,5 +63,33 @@ impl Trust {
         ensures { λ r. ⌜ r ≡ isHigh self c ⌝ }
     {
         c.0 < self.0
+    }
+
+    // This trust is at least the label.
+    pub fn covers(self, label: Label) -> bool
+        ensures { λ r. ⌜ r ≡ covers self label ⌝ }
+    {
+        label.0 <= self.0
+    }
+
+    // This trust as typing counts it: 0 if it is at or below C.
+    pub fn normal(self, c: Label) -> Trust
+        ensures { λ r. ⌜ r ≡ normal c self ⌝ }
+    {
+        if self.is_high(c) {
+            return self;
+        }
+        Trust(0)
+    }
+
+    // The smaller of this trust and a label, as an effect.
+    pub fn capped(self, label: Label) -> Label
+        ensures { λ r. ⌜ r ≡ capped self label ⌝ }
+    {
+        let trust = self.0;
+        if trust <= label.0 {
+            return Label(trust);
+        }
+        label
     }
 }

@@ -1,0 +1,35 @@
+-- "A1 to A15 are settled together from the typing rules as a joint lemma": by computing the verdicts.
+-- Assumes nothing.
+use mathlib.Core.Path.{refl}
+use Rattle.labels.specs.Labels.{lower, normal, capped}
+use Rattle.book.specs.Control.{both, either, those, while, sweep}
+use Rattle.book.specs.Kinds.{span, limits, group}
+use Rattle.book.specs.Records.{numberAt, cut, recordsIn, recordsFrom}
+use Rattle.book.specs.Book.{groupOf, stepsFrom, shapeAt, valueOf, declaredAt, stepAt, blockAt, parse}
+use Rattle.book.specs.Refusals.{cutFault, inOrder, misplaced, orderFault, counted, tooMany, beyond, countFault, above, outOfRange, rangeFault, valueNamed, cellNamed, stepNamed, dangling, dangles, nameFault, orRefuse, unreadable}
+use Rattle.book.specs.Outline.{stepCount}
+use Rattle.typing.specs.Shapes.{viewOf, onSome, alikeIn, alike, knownOf, fits, knownValue, declaredOk}
+use Rattle.typing.specs.Rules.{need, free, onCell, onCode, isPlainly, fresh, known, lowering, addable, holds, lowStep, highStep, step, fault}
+use Rattle.typing.specs.Verdict.{cellFault, orThen, blockFault, stepFault, orRefused, typed, verdictOf}
+use Rattle.typing.specs.Samples.{Samples}
+
+pub samples : Samples
+unfolding lower normal capped both either those while sweep span limits group numberAt cut recordsIn recordsFrom groupOf stepsFrom shapeAt valueOf declaredAt stepAt blockAt parse cutFault inOrder misplaced orderFault counted tooMany beyond countFault above outOfRange rangeFault valueNamed cellNamed stepNamed dangling dangles nameFault orRefuse unreadable stepCount viewOf onSome alikeIn alike knownOf fits knownValue declaredOk need free onCell onCode isPlainly fresh known lowering addable holds lowStep highStep step fault cellFault orThen blockFault stepFault orRefused typed verdictOf
+samples =
+    record {
+      a1 = refl;
+      a2 = refl;
+      a3 = refl;
+      a4 = refl;
+      a5 = refl;
+      a6 = refl;
+      a7 = refl;
+      a8 = refl;
+      a9 = refl;
+      a10 = refl;
+      a11 = refl;
+      a12 = refl;
+      a13 = refl;
+      a14 = refl;
+      a15 = refl;
+    }

@@ -1,0 +1,4 @@
+pub mod Shapes
+pub mod Rules
+pub mod Verdict
+pub mod Samples

@@ -1,0 +1,107 @@
+-- Shapes: 01, "Typing a block". What typing asks of a book, likeness, fitting, and the rule for a declared cell.
+--     View, viewOf                what typing asks of a book
+--     alike, fits                 shapes against shapes, registers against contents
+--     declaredOk                  a declared cell's rule
+-- Assumes nothing.
+use Prim.Native.Nat.{ℕ, zero, suc}
+use mathlib.Core.Bool.{Bool, true, false, not}
+use mathlib.Core.List.{List, map}
+use mathlib.Core.Option.{Option, none, some}
+use lib.Dec.{eqb}
+use lib.ListN.{getD, getElem?}
+use Rattle.labels.specs.declared.Label.{Label}
+use Rattle.labels.specs.declared.Trust.{Trust}
+use Rattle.labels.specs.Labels.{reaches, isMet, isHigh, normal}
+use Rattle.book.specs.declared.Shape.{Shape}
+use Rattle.book.specs.declared.Value.{Value}
+use Rattle.book.specs.declared.Value.the-variants.{CellName, CodeName}
+use Rattle.book.specs.declared.Value.the-variants as Values
+use Rattle.book.specs.declared.Declared.{Declared}
+use Rattle.book.specs.Control.{if_then_else_, both, either}
+use Rattle.book.specs.Book.{Book, Block}
+use Rattle.book.specs.Refusals.{noShape}
+use Rattle.typing.specs.declared.Known.{Known}
+use Rattle.typing.specs.declared.Known.the-variants.{Unknown, Plain, Code, CellOf}
+
+-- C, the shape of a number, the shape of a declared cell, the bound of a block
+pub record View : Type 0 where
+  pub c : Label
+  pub shape : ℕ → Shape
+  pub cell : ℕ → Option ℕ
+  pub bound : ℕ → Option Label
+
+unfoldable pub viewOf : Book → View
+viewOf K =
+    record {
+      c = K .c;
+      shape = λ i. getD (K .shapes) i noShape;
+      cell = λ k. getElem? (map (λ (d : Declared). d .shape) (K .cells)) k;
+      bound = λ b. getElem? (map (λ (b : Block). b .bound) (K .blocks)) b;
+    }
+
+unfoldable pub onSome : {A X : Type 0} → Option A → X → (A → X) → X
+onSome none x f = x
+onSome (some a) x f = f a
+
+-- over C and the shapes by their numbers
+module _ (c : Label) (shape : ℕ → Shape) where
+  abbrev pub isCode : ℕ → Bool
+  isCode i = eqb (shape i .kind) 17
+
+  abbrev pub isCell : ℕ → Bool
+  isCell i = eqb (shape i .kind) 18
+
+  abbrev pub isPlain : ℕ → Bool
+  isPlain i = both (not (isCode i)) (not (isCell i))
+
+  abbrev pub boundOf : ℕ → Label
+  boundOf i = shape i .bound
+
+  abbrev pub contentOf : ℕ → ℕ
+  contentOf i = shape i .content
+
+  -- "In typing, a trust .. at or below C counts as 0"
+  abbrev pub trustOf : ℕ → Trust
+  trustOf i = normal c (shape i .trust)
+
+  -- "Two shapes are alike when both are plain, both code with one bound, or both cells with equal trust and alike contents."
+  -- Contents are lower-numbered, so a depth of i + 1 is enough.
+  unfoldable pub alikeIn : ℕ → ℕ → ℕ → Bool
+  alikeIn zero i j = true
+  alikeIn (suc n) i j =
+      either (both (isPlain i) (isPlain j))
+      (either (both (isCode i) (both (isCode j) (eqb (boundOf i .0) (boundOf j .0))))
+      (both (isCell i) (both (isCell j) (both (eqb (trustOf i .0) (trustOf j .0)) (alikeIn n (contentOf i) (contentOf j))))))
+
+  unfoldable pub alike : ℕ → ℕ → Bool
+  alike i j = alikeIn (suc i) i j
+
+  -- what is known of a value that has shape i
+  unfoldable pub knownOf : ℕ → Known
+  knownOf i = if isCode i then Code (boundOf i) else if isCell i then CellOf i else Plain
+
+  -- "A code register of bound B fits a code content of bound at most B; others fit when alike."
+  unfoldable pub fits : Known → ℕ → Bool
+  fits Unknown i = false
+  fits Plain i = isPlain i
+  fits (Code b) i = both (isCode i) (reaches b (boundOf i))
+  fits (CellOf j) i = alike j i
+
+  -- "trust above C"
+  abbrev pub highTrust : ℕ → Bool
+  highTrust i = isHigh (trustOf i) c
+
+module _ (B : View) where
+  -- what is known of a declared value
+  unfoldable pub knownValue : Value → Known
+  knownValue (Values.Plain n) = Plain
+  knownValue (CellName n) = onSome (B .cell n) Unknown CellOf
+  knownValue (CodeName n) = onSome (B .bound n) Unknown Code
+
+  -- "A declared cell of trust above C needs label at least trust and a fitting value. Others need nothing."
+  unfoldable pub declaredOk : Declared → Bool
+  declaredOk d =
+      if highTrust (B .c) (B .shape) (d .shape)
+      then both (isMet (trustOf (B .c) (B .shape) (d .shape)) (d .label))
+      (fits (B .c) (B .shape) (knownValue (d .value)) (contentOf (B .c) (B .shape) (d .shape)))
+      else true
