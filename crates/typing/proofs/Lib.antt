@@ -1,1 +1,4 @@
 pub mod Joint
+pub mod Likes
+pub mod Told
+pub mod CellRules

@@ -90,13 +90,19 @@ unfoldable pub known : Label → State → ℕ → Known
 known c t r = if isLow c (register t r .effect) then Unknown else register t r .known
 
 -- "lower Q, at every P: stuck if Q is above both P and C; else P is Q."
+abbrev pub lowered : State → Label → Typed
+lowered t q = passes (record { p = q; lowered = true; registers = t .registers })
+
 unfoldable pub lowering : Label → State → Label → Typed
-lowering c t q =
-    free (either (reaches (t .p) q) (isLow c q)) (passes (record { p = q; lowered = true; registers = t .registers }))
+lowering c t q = free (either (reaches (t .p) q) (isLow c q)) (lowered t q)
 
 -- "operands of effect above C must be plain"
 unfoldable pub addable : Label → State → ℕ → Bool
 addable c t a = either (isLow c (register t a .effect)) (isPlainly (register t a .known))
+
+-- "add: operands of effect above C must be plain; least effect."
+abbrev pub adding : Label → State → ℕ → ℕ → ℕ → Typed
+adding c t r a b = need (both (addable c t a) (addable c t b)) (gives t r Plain (lower (used t a) (used t b)))
 
 -- over C and the shapes by their numbers
 module _ (c : Label) (shape : ℕ → Shape) where
@@ -123,10 +129,6 @@ module _ (c : Label) (shape : ℕ → Shape) where
   abbrev pub naming : State → ℕ → Option ℕ → Typed
   naming t r cell = onSome cell breaks (λ i. need (isCell c shape i) (gives t r (CellOf i) (t .p)))
 
-  -- "add: operands of effect above C must be plain; least effect."
-  abbrev pub adding : State → ℕ → ℕ → ℕ → Typed
-  adding t r a b = need (both (addable c t a) (addable c t b)) (gives t r Plain (lower (used t a) (used t b)))
-
   -- "new: low trust passes; otherwise an earlier lower must stand in the block, the content fits, and trust is at most its used
   -- effect. Result effect P."
   abbrev pub making : State → ℕ → ℕ → ℕ → Typed
@@ -134,10 +136,11 @@ module _ (c : Label) (shape : ℕ → Shape) where
       need (both (isCell c shape i) (either (not (highTrust c shape i)) (both (t .lowered) (holds t a i)))) (gives t r (CellOf i) (t .p))
 
   -- "read: w of low effect gives low; else w is a cell, and the result has its content shape and the smaller of S and P."
+  abbrev pub readFrom : State → ℕ → ℕ → Typed
+  readFrom t r i = gives t r (knownOf c shape (contentOf c shape i)) (capped (trustOf c shape i) (t .p))
+
   abbrev pub reading : State → ℕ → ℕ → Typed
-  reading t r w =
-      if isLow c (register t w .effect) then givesLow t r
-      else onCell (register t w .known) (λ i. gives t r (knownOf c shape (contentOf c shape i)) (capped (trustOf c shape i) (t .p)))
+  reading t r w = if isLow c (register t w .effect) then givesLow t r else onCell (known c t w) (readFrom t r)
 
   -- "write, relabel, exec need w a cell with used effect above C." P is above C, so that is w's effect above C.
   -- "write: stuck if P is below S; low S passes; else a fits and S is at most its used effect."
@@ -172,7 +175,7 @@ module _ (B : View) where
   highStep t (Put r n) = gives t r Plain (t .p)
   highStep t (Name r k) = naming (B .c) (B .shape) t r (B .cell k)
   highStep t (S.Code r b) = coding t r (B .bound b)
-  highStep t (Add r a b) = adding (B .c) (B .shape) t r a b
+  highStep t (Add r a b) = adding (B .c) t r a b
   highStep t (New r i a) = making (B .c) (B .shape) t r i a
   highStep t (Read r w) = reading (B .c) (B .shape) t r w
   highStep t (Write w a) = writing (B .c) (B .shape) t w a

@@ -1,4 +1,8 @@
 // The checker: typing rules and the verdict on a book.
+mod cells;
+mod rules;
+mod shapes;
+
 use labels::Label;
 
 // What is known of the value in a register.
@@ -7,6 +11,12 @@ pub enum Known {
     Plain,
     Code(Label),
     CellOf(u8),
+}
+
+// The shape of a register that is a cell.
+pub enum Cell {
+    Of(u8),
+    No,
 }
 
 // A register as typing sees it: a known shape and an effect.

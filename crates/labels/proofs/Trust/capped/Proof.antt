@@ -1,9 +1,9 @@
-use Rattle.labels.specs.Labels.{label, capped}
-use native.Mathlib.Omega.{arith}
+-- `Trust::capped` meets its contract. Assumes nothing.
 use mathlib.Core.Path.{ap}
-use borrow.Author.Needs.{needs}
-use Rattle.labels.proofs.Trust.capped.Statement.{statement}
+use native.Mathlib.Omega.{arith}
+use Rattle.labels.specs.Labels.{label, capped}
 use Rattle.labels.proofs.Trust.capped.Tie as tie
+use Rattle.labels.proofs.Trust.capped.Statement.{statement}
 
 returns : tie.Need-returns
 unfolding capped

@@ -1,10 +1,10 @@
 -- `Trust::normal` meets its contract. Assumes nothing.
-use mathlib.Core.Path.{_≡_}
 use mathlib.Core.Bool.{Bool, true, false}
+use mathlib.Core.Path.{_≡_}
 use borrow.Author.Needs.{needs}
+use Rattle.labels.specs.Labels.{trust, isHigh, normal}
 use Rattle.labels.specs.declared.Label.{Label}
 use Rattle.labels.specs.declared.Trust.{Trust}
-use Rattle.labels.specs.Labels.{trust, isHigh, normal}
 use Rattle.labels.proofs.Trust.normal.Tie as tie
 use Rattle.labels.proofs.Trust.normal.Statement.{statement}
 

@@ -1,0 +1,119 @@
+-- Laws of the rules, for the code: what a callee gave stands as a variable with its equation.
+--     registers, givens, lowers, adds      one set for each
+-- Assumes nothing.
+use mathlib.Core.Path.{_≡_, refl, sym, ap, _∙_}
+use mathlib.Core.Bool.{Bool, true, false}
+use mathlib.Core.List.{List, map}
+use Prim.Native.Nat.{ℕ, _≤_}
+use native.Mathlib.Omega.{arith}
+use lib.ListN.{length, getD, set, length-map, List·getD-eq-default}
+use lib.Seq.{set-out}
+use Rattle.labels.specs.declared.Label.{Label}
+use Rattle.labels.specs.Labels.{label, lower, reaches}
+use Rattle.book.specs.Control.{if_then_else_, both, either}
+use Rattle.typing.specs.declared.Known.{Known}
+use Rattle.typing.specs.declared.Known.the-variants.{Unknown, Plain, Code, CellOf}
+use Rattle.typing.specs.declared.Register.{Register}
+use Rattle.typing.specs.declared.State.{State}
+use Rattle.typing.specs.declared.Outcome.the-variants.{Passes, Stuck, Breaks}
+use Rattle.typing.specs.declared.Stepped.{Stepped}
+use Rattle.typing.specs.Rules.{Typed, passes, stuck, breaks, need, free, isPlainly, lowRegister, register, gives, used, known, lowered, lowering, addable, adding}
+use Rattle.typing.specs.Asked.{told}
+
+-- of an array in a struct the length is known through what its entries are to the machine
+pub register-past : {Y : Type 0} (f : Register → Y) (s : State) (r n : ℕ) → length (map f (s .registers)) ≡ n → n ≤ r → lowRegister ≡ register s r
+register-past f s r n e h = sym (List·getD-eq-default (s .registers) lowRegister (omega (arith, length-map (s .registers) f)))
+
+-- x is register r
+module _ (c : Label) (s : State) (r : ℕ) (x : Register) (ex : x ≡ register s r) where
+  pub used-is : (y : Label) → y ≡ lower (x .effect) (s .p) → y ≡ used s r
+  used-is y e = e ∙ ap (λ (x : Register). lower (x .effect) (s .p)) ex
+
+  module _ (b : Bool) (eb : b ≡ reaches c (x .effect)) where
+    low-is : b ≡ true → reaches c (register s r .effect) ≡ true
+    low-is h = ap (λ (x : Register). reaches c (x .effect)) (sym ex) ∙ sym eb ∙ h
+
+    high-is : b ≡ false → reaches c (register s r .effect) ≡ false
+    high-is h = ap (λ (x : Register). reaches c (x .effect)) (sym ex) ∙ sym eb ∙ h
+
+    pub known-low : b ≡ true → Unknown ≡ known c s r
+    unfolding known
+    known-low h = simp (low-is h)
+
+    pub known-high : b ≡ false → x .known ≡ known c s r
+    unfolding known
+    known-high h = simp (high-is h) (ap (λ (x : Register). x .known) ex)
+
+    pub addable-low : b ≡ true → true ≡ addable c s r
+    unfolding addable either
+    addable-low h = simp (low-is h)
+
+    addable-known : (k : Known) → b ≡ false → x .known ≡ k → isPlainly k ≡ addable c s r
+    unfolding addable either
+    addable-known k h e = simp (high-is h) (ap isPlainly (sym e ∙ ap (λ (x : Register). x .known) ex))
+
+    pub addable-unknown : b ≡ false → x .known ≡ Unknown → false ≡ addable c s r
+    unfolding isPlainly
+    addable-unknown h e = addable-known Unknown h e
+
+    pub addable-plain : b ≡ false → x .known ≡ Plain → true ≡ addable c s r
+    unfolding isPlainly
+    addable-plain h e = addable-known Plain h e
+
+    pub addable-code : (l : Label) → b ≡ false → x .known ≡ Code l → false ≡ addable c s r
+    unfolding isPlainly
+    addable-code l h e = addable-known (Code l) h e
+
+    pub addable-cell : (i : ℕ) → b ≡ false → x .known ≡ CellOf i → false ≡ addable c s r
+    unfolding isPlainly
+    addable-cell i h e = addable-known (CellOf i) h e
+
+pub ruleset registers = (register-past, used-is, known-low, known-high)
+
+pub ruleset addables = (addable-low, addable-unknown, addable-plain, addable-code, addable-cell)
+
+pub given-in : (s : State) (r : ℕ) (k : Known) (e : Label)
+    → record { outcome = Passes; state = record { p = s .p; lowered = s .lowered; registers = set (s .registers) r (record { known = k; effect = e }) } }
+    ≡ told s (gives s r k e)
+unfolding told
+given-in s r k e = refl
+
+pub given-out : {Y : Type 0} (f : Register → Y) (s : State) (r : ℕ) (k : Known) (e : Label) (n : ℕ) → length (map f (s .registers)) ≡ n → n ≤ r
+    → record { outcome = Passes; state = record { p = s .p; lowered = s .lowered; registers = s .registers } } ≡ told s (gives s r k e)
+unfolding told
+given-out f s r k e n q h = simp (set-out (s .registers) r (record { known = k; effect = e }) (omega (arith, length-map (s .registers) f)))
+
+pub ruleset givens = (given-in, given-out)
+
+-- x is what the code hands back
+module _ (c : Label) (s : State) (q : Label) (x : Stepped) (a : Bool) (ea : a ≡ reaches (s .p) q) where
+  pub lower-p : a ≡ true → x ≡ told s (lowered s q) → x ≡ told s (lowering c s q)
+  unfolding lowering free either
+  lower-p h e = e ∙ simp (← ea, h)
+
+  module _ (n : a ≡ false) (b : Bool) (eb : b ≡ reaches c q) where
+    pub lower-c : b ≡ true → x ≡ told s (lowered s q) → x ≡ told s (lowering c s q)
+    unfolding lowering free either
+    lower-c h e = e ∙ simp (← ea, n, ← eb, h)
+
+    pub lower-stuck : b ≡ false → x ≡ told s stuck → x ≡ told s (lowering c s q)
+    unfolding lowering free either
+    lower-stuck h e = e ∙ simp (← ea, n, ← eb, h)
+
+pub ruleset lowers = (lower-p, lower-c, lower-stuck)
+
+module _ (c : Label) (s : State) (r a b : ℕ) (x : Stepped) (i : Bool) (ei : i ≡ addable c s a) where
+  pub add-not : i ≡ false → x ≡ told s breaks → x ≡ told s (adding c s r a b)
+  unfolding need both
+  add-not h e = e ∙ simp (← ei, h)
+
+  module _ (h : i ≡ true) (j : Bool) (ej : j ≡ addable c s b) where
+    pub add-not-second : j ≡ false → x ≡ told s breaks → x ≡ told s (adding c s r a b)
+    unfolding need both
+    add-not-second k e = e ∙ simp (← ei, h, ← ej, k)
+
+    pub add-both : (u v w : Label) → j ≡ true → u ≡ used s a → v ≡ used s b → w ≡ lower u v → x ≡ told s (gives s r Plain w) → x ≡ told s (adding c s r a b)
+    unfolding need both
+    add-both u v w k eu ev ew e = e ∙ simp (← ei, h, ← ej, k, ew, eu, ev)
+
+pub ruleset adds = (add-not, add-not-second, add-both)

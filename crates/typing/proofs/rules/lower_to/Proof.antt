@@ -1,0 +1,12 @@
+-- `rules::lower_to` meets its contract. Assumes nothing.
+use borrow.Author.Needs.{needs}
+use Rattle.typing.specs.Asked.{told}
+use Rattle.typing.proofs.rules.lower_to.Tie as tie
+use Rattle.typing.proofs.rules.lower_to.Statement.{statement}
+
+returns : tie.Need-returns
+unfolding told
+returns c = search needs
+
+pub lower-to-spec : {M : Type 1} → statement M
+lower-to-spec = tie.close (tie.spec returns)

@@ -1,0 +1,54 @@
+-- What the functions inside this crate ask of their callers, and how they hand a rule's answer back.
+--     Sound                contents are lower-numbered
+--     tableView            what typing asks of a book, from an outline's tables
+--     told                 a rule's answer as a struct
+-- Assumes nothing.
+use mathlib.Core.Path.{_≡_}
+use mathlib.Core.Bool.{Bool, true, false, not}
+use mathlib.Core.List.{List}
+use mathlib.Core.Option.{Option, none, some}
+use Prim.Native.Nat.{ℕ, _<_}
+use lib.Dec.{eqb}
+use lib.ListN.{getElem?}
+use Rattle.labels.specs.declared.Label.{Label}
+use Rattle.labels.specs.Labels.{label}
+use Rattle.book.specs.declared.Shape.{Shape}
+use Rattle.book.specs.Control.{both}
+use Rattle.book.specs.Outline.{shapeIn}
+use Rattle.typing.specs.declared.Known.{Known}
+use Rattle.typing.specs.declared.Known.the-variants.{Unknown, Plain, Code, CellOf}
+use Rattle.typing.specs.declared.Cell.{Cell}
+use Rattle.typing.specs.declared.Cell.the-variants.{Of, No}
+use Rattle.typing.specs.declared.State.{State}
+use Rattle.typing.specs.declared.Outcome.the-variants.{Passes, Stuck, Breaks}
+use Rattle.typing.specs.declared.Stepped.{Stepped}
+use Rattle.typing.specs.Shapes.{View}
+use Rattle.typing.specs.Rules.{Typed, passes, stuck, breaks}
+
+-- contents are lower-numbered: refusal 6
+pub record Sound (shape : ℕ → Shape) : Type 0 where
+  pub falls : (i : ℕ) → shape i .kind ≡ 18 → shape i .content < i
+
+abbrev pub plainShape : Shape → Bool
+plainShape x = both (not (eqb (x .kind) 17)) (not (eqb (x .kind) 18))
+
+unfoldable pub labelled : Option ℕ → Option Label
+labelled none = none
+labelled (some n) = some (label n)
+
+-- from the table of shapes, the cells' shapes and the blocks' bounds
+abbrev pub tableView : Label → List ℕ → List ℕ → List ℕ → View
+tableView c shapes cells bounds =
+    record { c = c; shape = shapeIn shapes; cell = getElem? cells; bound = λ b. labelled (getElem? bounds b) }
+
+unfoldable pub told : State → Typed → Stepped
+told t (passes u) = record { outcome = Passes; state = u }
+told t stuck = record { outcome = Stuck; state = t }
+told t breaks = record { outcome = Breaks; state = t }
+
+-- what is known is a cell, and of which shape
+unfoldable pub cellOn : Known → Cell
+cellOn Unknown = No
+cellOn Plain = No
+cellOn (Code b) = No
+cellOn (CellOf i) = Of i

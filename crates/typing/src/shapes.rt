@@ -1,0 +1,97 @@
+// Shapes: likeness, and what fits a content. A table of shapes is an outline's, four bytes to a shape.
+use crate::Known;
+use book::Shape;
+use labels::Label;
+use labels::Trust;
+ghost use mathlib.Core.Path.{_≡_};
+ghost use Rattle.book.specs.Outline.{shapeIn};
+ghost use Rattle.typing.specs.Shapes.{isPlain, trustOf, highTrust, alike, knownOf, fits};
+ghost use Rattle.typing.specs.Asked.{Sound, plainShape};
+
+fn is_plain(x: Shape) -> bool
+    ensures { λ r. ⌜ r ≡ plainShape x ⌝ }
+{
+    if x.kind == 17 {
+        return false;
+    }
+    x.kind != 18
+}
+
+// The trust of a shape, as typing counts it.
+pub fn trust_of(shapes: &[u8], c: Label, i: u8) -> Trust
+    ensures { λ r. ⌜ r ≡ trustOf c (shapeIn (now (shapes .entry))) i ⌝ }
+{
+    let x = book::shape_in(shapes, i);
+    let trust = x.trust;
+    trust.normal(c)
+}
+
+// The trust of a shape is above C.
+pub fn is_high(shapes: &[u8], c: Label, i: u8) -> bool
+    ensures { λ r. ⌜ r ≡ highTrust c (shapeIn (now (shapes .entry))) i ⌝ }
+{
+    let trust = trust_of(shapes, c, i);
+    trust.is_high(c)
+}
+
+// Two shapes are alike. The number falls with each call, since contents are lower-numbered.
+pub fn are_alike(shapes: &[u8], c: Label, i: u8, j: u8) -> bool
+    requires { ⌜ Sound (shapeIn (now shapes)) ⌝ }
+    ensures { λ r. ⌜ r ≡ alike c (shapeIn (now (shapes .entry))) i j ⌝ }
+{
+    let a = book::shape_in(shapes, i);
+    let b = book::shape_in(shapes, j);
+    if a.kind == 17 {
+        if b.kind == 17 {
+            return a.bound.0 == b.bound.0;
+        }
+        return false;
+    }
+    if a.kind == 18 {
+        if b.kind == 18 {
+            let s = trust_of(shapes, c, i);
+            let t = trust_of(shapes, c, j);
+            if s.0 == t.0 {
+                return are_alike(shapes, c, a.content, b.content);
+            }
+            return false;
+        }
+        return false;
+    }
+    is_plain(b)
+}
+
+// What is known of a value that has this shape.
+pub fn known_of(shapes: &[u8], c: Label, i: u8) -> Known
+    ensures { λ r. ⌜ r ≡ knownOf c (shapeIn (now (shapes .entry))) i ⌝ }
+{
+    let x = book::shape_in(shapes, i);
+    let bound = x.bound;
+    if x.kind == 17 {
+        return Known::Code(bound);
+    }
+    if x.kind == 18 {
+        return Known::CellOf(i);
+    }
+    Known::Plain
+}
+
+// A register of this known shape fits the content shape.
+pub fn does_fit(shapes: &[u8], c: Label, known: Known, i: u8) -> bool
+    requires { ⌜ Sound (shapeIn (now shapes)) ⌝ }
+    ensures { λ r. ⌜ r ≡ fits c (shapeIn (now (shapes .entry))) known i ⌝ }
+{
+    match known {
+        Known::Unknown => false,
+        Known::Plain => is_plain(book::shape_in(shapes, i)),
+        Known::Code(b) => {
+            let x = book::shape_in(shapes, i);
+            let bound = x.bound;
+            if x.kind == 17 {
+                return b.reaches(bound);
+            }
+            false
+        }
+        Known::CellOf(j) => are_alike(shapes, c, j, i),
+    }
+}
