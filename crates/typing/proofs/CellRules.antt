@@ -2,19 +2,19 @@
 --     names, codes, starts, holdings, ons, news, reads, writes, relabels, execs      one set for each
 -- Assumes nothing.
 use mathlib.Core.Path.{_≡_, refl, sym, ap, _∙_}
-use mathlib.Core.Bool.{Bool, true, false, not}
+use mathlib.Core.Bool.{Bool, true, false}
 use mathlib.Core.List.{List, [], _∷_}
-use mathlib.Core.Option.{Option, none, some}
+use mathlib.Core.Option.{none, some}
 use Prim.Native.Nat.{ℕ, zero, suc, _≤_, _<_}
 use native.Mathlib.Omega.{arith}
 use lib.Dec.{eqb}
 use lib.ListN.{length, getD, getElem?}
-use borrow.Author.Tests.{eq-eqb, ne-eqb}
+use borrow.Author.Tests.{ne-eqb}
 use Rattle.labels.specs.declared.Label.{Label}
 use Rattle.labels.specs.declared.Trust.{Trust}
 use Rattle.labels.specs.Labels.{label, reaches, isMet, covers, capped}
 use Rattle.book.specs.declared.Shape.{Shape}
-use Rattle.book.specs.Control.{if_then_else_, both, either}
+use Rattle.book.specs.Control.{both, either}
 use Rattle.typing.specs.declared.Known.{Known}
 use Rattle.typing.specs.declared.Known.the-variants.{Unknown, Plain, Code, CellOf}
 use Rattle.typing.specs.declared.Cell.{Cell}

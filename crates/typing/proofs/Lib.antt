@@ -2,3 +2,5 @@ pub mod Joint
 pub mod Likes
 pub mod Told
 pub mod CellRules
+pub mod Dispatch
+pub mod Walks

@@ -11,9 +11,9 @@ use lib.Dec.{eqb}
 use borrow.Author.Tests.{eqb-true, eq-eqb, ne-eqb}
 use Rattle.labels.specs.declared.Label.{Label}
 use Rattle.labels.specs.declared.Trust.{Trust}
-use Rattle.labels.specs.Labels.{label, reaches, isHigh, normal}
+use Rattle.labels.specs.Labels.{reaches, isHigh, normal}
 use Rattle.book.specs.declared.Shape.{Shape}
-use Rattle.book.specs.Control.{if_then_else_, both, either}
+use Rattle.book.specs.Control.{both, either}
 use Rattle.book.proofs.Tests.{either-false}
 use Rattle.typing.specs.declared.Known.{Known}
 use Rattle.typing.specs.declared.Known.the-variants.{Unknown, Plain, Code, CellOf}

@@ -3,21 +3,21 @@
 -- Assumes nothing.
 use mathlib.Core.Path.{_≡_, refl, sym, ap, _∙_}
 use mathlib.Core.Bool.{Bool, true, false}
-use mathlib.Core.List.{List, map}
+use mathlib.Core.List.{map}
 use Prim.Native.Nat.{ℕ, _≤_}
 use native.Mathlib.Omega.{arith}
-use lib.ListN.{length, getD, set, length-map, List·getD-eq-default}
+use lib.ListN.{length, set, length-map, List·getD-eq-default}
 use lib.Seq.{set-out}
 use Rattle.labels.specs.declared.Label.{Label}
-use Rattle.labels.specs.Labels.{label, lower, reaches}
-use Rattle.book.specs.Control.{if_then_else_, both, either}
+use Rattle.labels.specs.Labels.{lower, reaches}
+use Rattle.book.specs.Control.{both, either}
 use Rattle.typing.specs.declared.Known.{Known}
 use Rattle.typing.specs.declared.Known.the-variants.{Unknown, Plain, Code, CellOf}
 use Rattle.typing.specs.declared.Register.{Register}
 use Rattle.typing.specs.declared.State.{State}
-use Rattle.typing.specs.declared.Outcome.the-variants.{Passes, Stuck, Breaks}
+use Rattle.typing.specs.declared.Outcome.the-variants.{Passes}
 use Rattle.typing.specs.declared.Stepped.{Stepped}
-use Rattle.typing.specs.Rules.{Typed, passes, stuck, breaks, need, free, isPlainly, lowRegister, register, gives, used, known, lowered, lowering, addable, adding}
+use Rattle.typing.specs.Rules.{stuck, breaks, need, free, isPlainly, lowRegister, register, gives, used, known, lowered, lowering, addable, adding}
 use Rattle.typing.specs.Asked.{told}
 
 -- of an array in a struct the length is known through what its entries are to the machine

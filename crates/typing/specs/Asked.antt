@@ -1,10 +1,11 @@
 -- What the functions inside this crate ask of their callers, and how they hand a rule's answer back.
 --     Sound                contents are lower-numbered
 --     tableView            what typing asks of a book, from an outline's tables
---     told                 a rule's answer as a struct
+--     told, cellOn         a rule's answer as a struct; a known shape that is a cell
+--     stretchFault         a block's stretch
 -- Assumes nothing.
 use mathlib.Core.Path.{_≡_}
-use mathlib.Core.Bool.{Bool, true, false, not}
+use mathlib.Core.Bool.{Bool, not}
 use mathlib.Core.List.{List}
 use mathlib.Core.Option.{Option, none, some}
 use Prim.Native.Nat.{ℕ, _<_}
@@ -14,6 +15,8 @@ use Rattle.labels.specs.declared.Label.{Label}
 use Rattle.labels.specs.Labels.{label}
 use Rattle.book.specs.declared.Shape.{Shape}
 use Rattle.book.specs.Control.{both}
+use Rattle.book.specs.declared.Fault.{Fault}
+use Rattle.book.specs.Book.{stepAt, stepsFrom}
 use Rattle.book.specs.Outline.{shapeIn}
 use Rattle.typing.specs.declared.Known.{Known}
 use Rattle.typing.specs.declared.Known.the-variants.{Unknown, Plain, Code, CellOf}
@@ -23,7 +26,7 @@ use Rattle.typing.specs.declared.State.{State}
 use Rattle.typing.specs.declared.Outcome.the-variants.{Passes, Stuck, Breaks}
 use Rattle.typing.specs.declared.Stepped.{Stepped}
 use Rattle.typing.specs.Shapes.{View}
-use Rattle.typing.specs.Rules.{Typed, passes, stuck, breaks}
+use Rattle.typing.specs.Rules.{Typed, passes, stuck, breaks, fresh, fault}
 
 -- contents are lower-numbered: refusal 6
 pub record Sound (shape : ℕ → Shape) : Type 0 where
@@ -52,3 +55,7 @@ cellOn Unknown = No
 cellOn Plain = No
 cellOn (Code b) = No
 cellOn (CellOf i) = Of i
+
+-- the first step of a stretch w that breaks its rule: the walk goes by the steps that stand one after the other
+unfoldable pub stretchFault : View → List ℕ → Label → Fault
+stretchFault B w b = fault B (stepAt w) (fresh b) (stepsFrom w 0)

@@ -10,7 +10,7 @@ use mathlib.Core.List.{List, [], _∷_}
 use mathlib.Core.Option.{Option}
 use lib.ListN.{getD, set, replicate}
 use Rattle.labels.specs.declared.Label.{Label}
-use Rattle.labels.specs.Labels.{label, lower, reaches, isAbove, isMet, isHigh, covers, capped}
+use Rattle.labels.specs.Labels.{label, lower, reaches, isMet, covers, capped}
 use Rattle.book.specs.declared.Fault.{Fault}
 use Rattle.book.specs.declared.Fault.the-variants.{Nowhere, At}
 use Rattle.book.specs.declared.Shape.{Shape}

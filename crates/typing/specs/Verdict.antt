@@ -2,7 +2,7 @@
 --     cellFault, stepFault     the first record at fault by refusals 7 and 8
 --     verdict                  the answer, for every list of bytes
 -- Assumes nothing.
-use Prim.Native.Nat.{ℕ, _+_}
+use Prim.Native.Nat.{ℕ}
 use mathlib.Core.Bool.{not}
 use mathlib.Core.List.{List, [], _∷_}
 use lib.ListN.{length}

@@ -1,4 +1,5 @@
 // The checker: typing rules and the verdict on a book.
+mod blocks;
 mod cells;
 mod rules;
 mod shapes;

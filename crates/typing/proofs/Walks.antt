@@ -1,0 +1,127 @@
+-- Laws of the walk of a stretch, as the loop goes through it. z is what the whole walk gives.
+-- Assumes nothing.
+use mathlib.Core.Path.{_≡_, refl, sym, ap, _∙_}
+use mathlib.Core.Bool.{Bool, true, false}
+use mathlib.Core.List.{List}
+use Prim.Native.Nat.{ℕ, _-_, _≤_, _<_}
+use native.Mathlib.Omega.{arith}
+use lib.ListN.{length}
+use borrow.Author.Tests.{lt-ltb, eqb-true}
+use Rattle.labels.specs.declared.Label.{Label}
+use Rattle.book.specs.declared.Fault.{Fault}
+use Rattle.book.specs.declared.Fault.the-variants.{Nowhere, At}
+use Rattle.book.specs.declared.Step.{Step}
+use Rattle.book.specs.declared.StepAt.{StepAt}
+use Rattle.book.specs.declared.StepAt.the-variants.{NoStep, StepThere}
+use Rattle.book.specs.Control.{both}
+use Rattle.book.specs.Kinds.{group}
+use Rattle.book.specs.Records.{byteAt, next, inGroup}
+use Rattle.book.specs.Book.{stepAt, stepsFrom}
+use Rattle.book.specs.Stretch.{stepFound}
+use Rattle.book.specs.Asked.{Whole}
+use Rattle.book.proofs.Records.{walk}
+use Rattle.book.proofs.Steps.{steps-end, steps-none, steps-more}
+use Rattle.typing.specs.declared.State.{State}
+use Rattle.typing.specs.declared.Outcome.the-variants.{Passes, Stuck, Breaks}
+use Rattle.typing.specs.declared.Stepped.{Stepped}
+use Rattle.typing.specs.Shapes.{View}
+use Rattle.typing.specs.Rules.{Typed, passes, stuck, breaks, fresh, step, fault}
+use Rattle.typing.specs.Asked.{told, stretchFault}
+
+-- what was found at o, in a stretch that is whole from there on
+pub record Stood (w : List ℕ) (o : ℕ) (p : Step) (n : ℕ) : Type 0 where
+  pub kind : group (byteAt w o) ≡ 5
+  pub is : p ≡ stepAt w o
+  pub on : n ≡ next w o
+
+module _ (w : List ℕ) (o : ℕ) (whole : Whole w o) (h : o < length w) (x : StepAt) (ex : x ≡ stepFound w o) where
+  no : x ≡ NoStep → group (byteAt w o) ≡ 5 → ⊥
+  unfolding stepFound both
+  no e g =
+      let k : inGroup w 5 o ≡ true = borrow.Author.Tests.eq-eqb _ _ g in
+      let y : StepThere (stepAt w o) (next w o) ≡ NoStep = sym (simp (lt-ltb _ _ h, k, walk w o whole h .uncut) at ex) ∙ e in
+      let z : _≡_ {A = ℕ} 0 1 = cc in
+      omega arith
+
+  pub there : (p : Step) (n : ℕ) → x ≡ StepThere p n → Stood w o p n
+  unfolding stepFound both
+  there p n e = go (inGroup w 5 o) refl
+    where
+      go : (b : Bool) → inGroup w 5 o ≡ b → Stood w o p n
+      go true k =
+          let y : StepThere (stepAt w o) (next w o) ≡ StepThere p n = sym (simp (lt-ltb _ _ h, k, walk w o whole h .uncut) at ex) ∙ e in
+          record { kind = eqb-true _ _ k; is = cc; on = cc }
+      go false k =
+          let y : NoStep ≡ StepThere p n = sym (simp (lt-ltb _ _ h, k) at ex) ∙ e in
+          let z : _≡_ {A = ℕ} 0 1 = cc in
+          absurd (omega arith)
+
+pub walk-start : (B : View) (w : List ℕ) (b : Label) (s : State) (z : Fault) → s ≡ fresh b → z ≡ fault B (stepAt w) s (stepsFrom w 0) → z ≡ stretchFault B w b
+unfolding stretchFault
+walk-start B w b s z e f = f ∙ simp e
+
+-- what the rule said, by its outcome
+told-passes : (s : State) (t : Typed) (y : Stepped) → y ≡ told s t → y .outcome ≡ Passes → t ≡ passes (y .state)
+unfolding told
+told-passes s (passes u) y e o = ap passes (ap (λ (y : Stepped). y .state) (sym e))
+told-passes s stuck y e o = let a : y .outcome ≡ Stuck = ap (λ (y : Stepped). y .outcome) e in let z : _≡_ {A = ℕ} 0 1 = cc in absurd (omega arith)
+told-passes s breaks y e o = let a : y .outcome ≡ Breaks = ap (λ (y : Stepped). y .outcome) e in let z : _≡_ {A = ℕ} 0 1 = cc in absurd (omega arith)
+
+told-stuck : (s : State) (t : Typed) (y : Stepped) → y ≡ told s t → y .outcome ≡ Stuck → t ≡ stuck
+unfolding told
+told-stuck s (passes u) y e o = let a : y .outcome ≡ Passes = ap (λ (y : Stepped). y .outcome) e in let z : _≡_ {A = ℕ} 0 1 = cc in absurd (omega arith)
+told-stuck s stuck y e o = refl
+told-stuck s breaks y e o = let a : y .outcome ≡ Breaks = ap (λ (y : Stepped). y .outcome) e in let z : _≡_ {A = ℕ} 0 1 = cc in absurd (omega arith)
+
+told-breaks : (s : State) (t : Typed) (y : Stepped) → y ≡ told s t → y .outcome ≡ Breaks → t ≡ breaks
+unfolding told
+told-breaks s (passes u) y e o = let a : y .outcome ≡ Passes = ap (λ (y : Stepped). y .outcome) e in let z : _≡_ {A = ℕ} 0 1 = cc in absurd (omega arith)
+told-breaks s stuck y e o = let a : y .outcome ≡ Stuck = ap (λ (y : Stepped). y .outcome) e in let z : _≡_ {A = ℕ} 0 1 = cc in absurd (omega arith)
+told-breaks s breaks y e o = refl
+
+module _ (B : View) (w : List ℕ) (s : State) (o : ℕ) (z : Fault) (inv : fault B (stepAt w) s (stepsFrom w o) ≡ z) where
+  pub walk-end : length w ≤ o → Nowhere ≡ z
+  unfolding fault
+  walk-end h = simp (steps-end w o h) at inv
+
+  module _ (whole : Whole w o) (h : o < length w) (x : StepAt) (ex : x ≡ stepFound w o) where
+    pub walk-none : x ≡ NoStep → Nowhere ≡ z
+    unfolding fault
+    walk-none e = simp (steps-none w o whole h (no w o whole h x ex e)) at inv
+
+    module _ (p : Step) (n : ℕ) (e : x ≡ StepThere p n) where
+      stood : Stood w o p n
+      stood = there w o whole h x ex p n e
+
+      pub walk-whole : Whole w n
+      walk-whole = rw (stood .on) (walk w o whole h .rest)
+
+      pub walk-inside : n ≤ length w
+      walk-inside = rw (stood .on) (walk w o whole h .inside)
+
+      pub walk-falls : length w - n < length w - o
+      walk-falls = let k = walk w o whole h in omega (arith, k .spanned, k .inside, stood .on)
+
+      module _ (y : Stepped) (ey : y ≡ told s (step B s p)) where
+        here : (t : Typed) → step B s p ≡ t → step B s (stepAt w o) ≡ t
+        here t q = ap (step B s) (sym (stood .is)) ∙ q
+
+        pub walk-on : y .outcome ≡ Passes → fault B (stepAt w) (y .state) (stepsFrom w n) ≡ z
+        unfolding fault
+        walk-on q =
+            let t = here _ (told-passes s (step B s p) y ey q) in
+            rw (stood .on) (simp (steps-more w o whole h (stood .kind), fault, t) at inv)
+
+        pub walk-stuck : y .outcome ≡ Stuck → Nowhere ≡ z
+        unfolding fault
+        walk-stuck q =
+            let t = here _ (told-stuck s (step B s p) y ey q) in
+            simp (steps-more w o whole h (stood .kind), fault, t) at inv
+
+        pub walk-breaks : y .outcome ≡ Breaks → At o ≡ z
+        unfolding fault
+        walk-breaks q =
+            let t = here _ (told-breaks s (step B s p) y ey q) in
+            simp (steps-more w o whole h (stood .kind), fault, t) at inv
+
+pub ruleset walks = (walk-start, walk-end, walk-none, walk-whole, walk-inside, walk-falls, walk-on, walk-stuck, walk-breaks)

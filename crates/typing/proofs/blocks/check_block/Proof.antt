@@ -1,0 +1,86 @@
+-- `blocks::check_block` meets its contract. Assumes nothing.
+use Prim.Native.Nat.{_-_, _≤_}
+use mathlib.Core.Path.{_≡_, refl}
+use native.Mathlib.Omega.{arith}
+use lib.ListN.{length}
+use borrow.Author.Needs.{needs}
+use Rattle.book.specs.Asked.{Whole}
+use Rattle.book.specs.Book.{stepAt, stepsFrom}
+use Rattle.typing.specs.Asked.{tableView}
+use Rattle.typing.specs.Rules.{fault}
+use Rattle.typing.proofs.Walks.{walks}
+use Rattle.typing.proofs.blocks.check_block.Tie as tie
+use Rattle.typing.proofs.blocks.check_block.Statement.{statement}
+
+abbrev Inv-loop : tie.InvT-loop
+Inv-loop table owners bounds c stretch s₀ o₀ s o = (o ≤ length stretch) × Whole stretch o × (fault (tableView c table owners bounds) (stepAt stretch) s (stepsFrom stretch o) ≡ fault (tableView c table owners bounds) (stepAt stretch) s₀ (stepsFrom stretch o₀))
+
+abbrev μ-loop : tie.MeasureT-loop
+μ-loop table owners bounds c stretch s₀ o₀ s o = length stretch - o
+
+fresh-requires : tie.Need-fresh-requires Inv-loop μ-loop
+fresh-requires c κs = search needs
+
+loop-holds : tie.Need-loop-holds Inv-loop μ-loop
+loop-holds c = (omega arith, search needs, refl)
+
+step-at-requires : tie.Need-step-at-requires Inv-loop μ-loop
+step-at-requires c κs = search needs
+
+enum-known-p : tie.Need-enum-known-p Inv-loop μ-loop
+enum-known-p c = search needs
+
+enum-told : tie.Need-enum-told Inv-loop μ-loop
+enum-told c = search needs
+
+returns : tie.Need-returns Inv-loop μ-loop
+returns c = search walks
+
+type-step-requires : tie.Need-type-step-requires Inv-loop μ-loop
+type-step-requires c κs = search needs
+
+enum-told-2 : tie.Need-enum-told-2 Inv-loop μ-loop
+enum-told-2 c = search needs
+
+loop-less : tie.Need-loop-less Inv-loop μ-loop
+loop-less c = search walks
+
+loop-again : tie.Need-loop-again Inv-loop μ-loop
+loop-again c = search walks
+
+enum-told-3 : tie.Need-enum-told-3 Inv-loop μ-loop
+enum-told-3 c = search needs
+
+returns-2 : tie.Need-returns-2 Inv-loop μ-loop
+returns-2 c = search walks
+
+enum-told-4 : tie.Need-enum-told-4 Inv-loop μ-loop
+enum-told-4 c = search needs
+
+returns-3 : tie.Need-returns-3 Inv-loop μ-loop
+returns-3 c = search walks
+
+returns-4 : tie.Need-returns-4 Inv-loop μ-loop
+returns-4 c = search walks
+
+pub check-block-spec : {M : Type 1} → statement M
+check-block-spec =
+    tie.close
+    (tie.spec
+    Inv-loop
+    μ-loop
+    fresh-requires
+    loop-holds
+    step-at-requires
+    enum-known-p
+    enum-told
+    returns
+    type-step-requires
+    enum-told-2
+    loop-less
+    loop-again
+    enum-told-3
+    returns-2
+    enum-told-4
+    returns-3
+    returns-4)
