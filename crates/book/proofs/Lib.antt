@@ -10,6 +10,7 @@ pub mod Decoded
 pub mod Filled
 pub mod ShapeTable
 pub mod Past
+pub mod Part
 pub mod Limits
 pub mod Gathered
 pub mod Named
