@@ -15,9 +15,9 @@ const TOP_C: u8 = 14;
 const TOP_REGISTER: u8 = 7;
 
 /// Value kinds: "0 plain, 1 cell, 2 code".
-const PLAIN_VALUE: u8 = 0;
-const CELL_VALUE: u8 = 1;
-const CODE_VALUE: u8 = 2;
+pub const PLAIN_VALUE: u8 = 0;
+pub const CELL_VALUE: u8 = 1;
+pub const CODE_VALUE: u8 = 2;
 
 /// "Refusals, each with a place".
 #[derive(Clone, Copy, Debug, PartialEq, Eq)]
@@ -58,6 +58,19 @@ pub enum Step {
     Lower { label: u8 },
     Start { block: u8 },
     Exec { w: u8 },
+}
+
+impl Step {
+    /// The length of its record: "one byte of kind, then a body".
+    pub fn size(self) -> usize {
+        match self {
+            Step::Put { .. } => 6,
+            Step::Add { .. } | Step::New { .. } => 4,
+            Step::Name { .. } | Step::Code { .. } => 3,
+            Step::Read { .. } | Step::Write { .. } | Step::Relabel { .. } => 3,
+            Step::Lower { .. } | Step::Start { .. } | Step::Exec { .. } => 2,
+        }
+    }
 }
 
 /// "48 block: bound. Its steps follow, perhaps none." The stretch of its steps begins at the
@@ -130,7 +143,7 @@ fn check_length(bytes: &[u8]) -> Result<(), Refusal> {
 
 /// Refusal 2: "A kind is none of the above, or the book ends inside a body."
 fn split(bytes: &[u8]) -> Result<Vec<Record>, Refusal> {
-    let mut records = Vec::new();
+    let mut records = Vec::with_capacity(bytes.len() / 3 + 1);
     let mut place = 0;
     while place < bytes.len() {
         let Some((content, size)) = decode(place, &bytes[place..]) else {
@@ -304,7 +317,7 @@ fn assemble(records: &[Record]) -> Book {
                 bound,
                 start: record.place + record.size,
                 length: 0,
-                steps: Vec::new(),
+                steps: Vec::with_capacity(MOST_STEPS),
             }),
             Content::Step(step) => {
                 if let Some(block) = book.blocks.last_mut() {

@@ -2,14 +2,14 @@
 
 mod chance;
 mod counts;
-mod dice;
-mod huge;
+pub(crate) mod dice;
+pub(crate) mod huge;
 mod kinds;
 mod limits;
 mod names;
 mod order;
-mod records;
-mod samples;
+pub(crate) mod records;
+pub(crate) mod samples;
 mod stages;
 #[cfg(test)]
 mod tests;

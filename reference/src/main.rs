@@ -1,20 +1,20 @@
-//! Reference implementation of document 01, written apart from the verified code.
+//! The command line of the reference implementation.
 //!
-//! `reference books` writes the file of test books to standard output.
+//! `reference books` writes the file of test books for reading to standard output.
 //! `reference read` reads such a file on standard input and prints one line per book.
+//! `reference check-books` writes the file of test books for checking.
+//! `reference verdict` reads such a file on standard input and prints one verdict per book.
+//! `reference check FILE` prints the verdict on the one book in a file.
 
-mod answer;
-mod book;
-mod checksum;
-mod file;
-mod generate;
-
+use reference::{answer, check, check_books, file, generate};
 use std::ffi::OsString;
+use std::fmt::Display;
 use std::io::{self, Read, Write};
 use std::process::ExitCode;
 
 fn main() -> ExitCode {
-    match run(std::env::args_os().nth(1)) {
+    let mut arguments = std::env::args_os().skip(1);
+    match run(arguments.next(), arguments.next()) {
         Ok(()) => ExitCode::SUCCESS,
         Err(error) => {
             eprintln!("reference: {error}");
@@ -23,24 +23,36 @@ fn main() -> ExitCode {
     }
 }
 
-fn run(command: Option<OsString>) -> io::Result<()> {
-    match command.as_ref().and_then(|word| word.to_str()) {
-        Some("books") => write_books(),
-        Some("read") => print_answers(),
-        _ => Err(io::Error::other("usage: reference books | reference read")),
+fn run(command: Option<OsString>, path: Option<OsString>) -> io::Result<()> {
+    let word = command.as_ref().and_then(|word| word.to_str());
+    match (word, path) {
+        (Some("books"), _) => write_books(&generate::books()),
+        (Some("read"), _) => print_lines(answer::line),
+        (Some("check-books"), _) => write_books(&check_books::books()),
+        (Some("verdict"), _) => print_lines(|_, book| check(book)),
+        (Some("check"), Some(path)) => print_verdict(path),
+        _ => Err(io::Error::other(
+            "usage: reference books | read | check-books | verdict | check FILE",
+        )),
     }
 }
 
-fn write_books() -> io::Result<()> {
-    io::stdout().write_all(&file::join(&generate::books()))
+fn write_books(books: &[Vec<u8>]) -> io::Result<()> {
+    io::stdout().write_all(&file::join(books))
 }
 
-fn print_answers() -> io::Result<()> {
+/// One line for each book in the file on standard input.
+fn print_lines<T: Display>(line: impl Fn(usize, &[u8]) -> T) -> io::Result<()> {
     let mut bytes = Vec::new();
     io::stdin().read_to_end(&mut bytes)?;
     let mut out = io::BufWriter::new(io::stdout().lock());
     for (index, book) in file::split(&bytes)?.into_iter().enumerate() {
-        writeln!(out, "{}", answer::line(index, book))?;
+        writeln!(out, "{}", line(index, book))?;
     }
     out.flush()
+}
+
+fn print_verdict(path: OsString) -> io::Result<()> {
+    println!("{}", check(&std::fs::read(path)?));
+    Ok(())
 }
