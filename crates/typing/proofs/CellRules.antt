@@ -26,12 +26,12 @@ use Rattle.typing.specs.Shapes.{onSome, contentOf, trustOf, highTrust, k
 use Rattle.typing.specs.Rules.{Typed, passes, stuck, breaks, need, free, onCell, onCode, register, gives, givesLow, used, known, holds, naming, coding, making, readFrom, reading, writing, relabelling, executing, starting}
 use Rattle.typing.specs.Asked.{labelled, told, cellOn}
 
-at-some : (l : List ℕ) (i : ℕ) → i < length l → getElem? l i ≡ some (getD l i 0)
+pub at-some : (l : List ℕ) (i : ℕ) → i < length l → getElem? l i ≡ some (getD l i 0)
 at-some [] i h = absurd (omega arith)
 at-some (x ∷ xs) zero h = refl
 at-some (x ∷ xs) (suc i) h = at-some xs i (omega arith)
 
-at-none : (l : List ℕ) (i : ℕ) → length l ≤ i → getElem? l i ≡ none
+pub at-none : (l : List ℕ) (i : ℕ) → length l ≤ i → getElem? l i ≡ none
 at-none [] i h = refl
 at-none (x ∷ xs) zero h = absurd (omega arith)
 at-none (x ∷ xs) (suc i) h = at-none xs i (omega arith)

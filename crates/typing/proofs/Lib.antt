@@ -4,3 +4,4 @@ pub mod Told
 pub mod CellRules
 pub mod Dispatch
 pub mod Walks
+pub mod DeclaredRules

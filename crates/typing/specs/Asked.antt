@@ -1,7 +1,8 @@
 -- What the functions inside this crate ask of their callers, and how they hand a rule's answer back.
 --     Sound                contents are lower-numbered
---     tableView            what typing asks of a book, from an outline's tables
+--     tableView, knownIn   what typing asks of a book, from an outline's tables
 --     told, cellOn         a rule's answer as a struct; a known shape that is a cell
+--     Listed               offsets of declared cells
 --     stretchFault         a block's stretch
 -- Assumes nothing.
 use mathlib.Core.Path.{_≡_}
@@ -10,13 +11,16 @@ use mathlib.Core.List.{List}
 use mathlib.Core.Option.{Option, none, some}
 use Prim.Native.Nat.{ℕ, _<_}
 use lib.Dec.{eqb}
-use lib.ListN.{getElem?}
+use lib.ListN.{length, getD, getElem?}
 use Rattle.labels.specs.declared.Label.{Label}
 use Rattle.labels.specs.Labels.{label}
 use Rattle.book.specs.declared.Shape.{Shape}
+use Rattle.book.specs.declared.Value.{Value}
 use Rattle.book.specs.Control.{both}
 use Rattle.book.specs.declared.Fault.{Fault}
-use Rattle.book.specs.Book.{stepAt, stepsFrom}
+use Rattle.book.specs.declared.CellAt.the-variants.{CellThere}
+use Rattle.book.specs.Book.{declaredAt, stepAt, stepsFrom}
+use Rattle.book.specs.Stretch.{cellFound}
 use Rattle.book.specs.Outline.{shapeIn}
 use Rattle.typing.specs.declared.Known.{Known}
 use Rattle.typing.specs.declared.Known.the-variants.{Unknown, Plain, Code, CellOf}
@@ -25,7 +29,7 @@ use Rattle.typing.specs.declared.Cell.the-variants.{Of, No}
 use Rattle.typing.specs.declared.State.{State}
 use Rattle.typing.specs.declared.Outcome.the-variants.{Passes, Stuck, Breaks}
 use Rattle.typing.specs.declared.Stepped.{Stepped}
-use Rattle.typing.specs.Shapes.{View}
+use Rattle.typing.specs.Shapes.{View, knownValue}
 use Rattle.typing.specs.Rules.{Typed, passes, stuck, breaks, fresh, fault}
 
 -- contents are lower-numbered: refusal 6
@@ -44,6 +48,10 @@ abbrev pub tableView : Label → List ℕ → List ℕ → List ℕ → View
 tableView c shapes cells bounds =
     record { c = c; shape = shapeIn shapes; cell = getElem? cells; bound = λ b. labelled (getElem? bounds b) }
 
+-- what is known of a declared value, from the tables
+unfoldable pub knownIn : List ℕ → List ℕ → Value → Known
+knownIn cells bounds v = knownValue (getElem? cells) (λ b. labelled (getElem? bounds b)) v
+
 unfoldable pub told : State → Typed → Stepped
 told t (passes u) = record { outcome = Passes; state = u }
 told t stuck = record { outcome = Stuck; state = t }
@@ -55,6 +63,10 @@ cellOn Unknown = No
 cellOn Plain = No
 cellOn (Code b) = No
 cellOn (CellOf i) = Of i
+
+-- at each of these offsets a declared cell stands
+pub record Listed (s os : List ℕ) : Type 0 where
+  pub there : (i : ℕ) → i < length os → cellFound s (getD os i 0) ≡ CellThere (declaredAt s (getD os i 0))
 
 -- the first step of a stretch w that breaks its rule: the walk goes by the steps that stand one after the other
 unfoldable pub stretchFault : View → List ℕ → Label → Fault

@@ -91,17 +91,16 @@ module _ (c : Label) (shape : ℕ → Shape) where
   abbrev pub highTrust : ℕ → Bool
   highTrust i = isHigh (trustOf i) c
 
-module _ (B : View) where
-  -- what is known of a declared value
-  unfoldable pub knownValue : Value → Known
-  knownValue (Values.Plain n) = Plain
-  knownValue (CellName n) = onSome (B .cell n) Unknown CellOf
-  knownValue (CodeName n) = onSome (B .bound n) Unknown Code
+-- what is known of a declared value, by the declared cells' shapes and the blocks' bounds
+unfoldable pub knownValue : (ℕ → Option ℕ) → (ℕ → Option Label) → Value → Known
+knownValue cell bound (Values.Plain n) = Plain
+knownValue cell bound (CellName n) = onSome (cell n) Unknown CellOf
+knownValue cell bound (CodeName n) = onSome (bound n) Unknown Code
 
-  -- "A declared cell of trust above C needs label at least trust and a fitting value. Others need nothing."
-  unfoldable pub declaredOk : Declared → Bool
-  declaredOk d =
-      if highTrust (B .c) (B .shape) (d .shape)
-      then both (isMet (trustOf (B .c) (B .shape) (d .shape)) (d .label))
-      (fits (B .c) (B .shape) (knownValue (d .value)) (contentOf (B .c) (B .shape) (d .shape)))
-      else true
+-- "A declared cell of trust above C needs label at least trust and a fitting value. Others need nothing."
+unfoldable pub declaredOk : View → Declared → Bool
+declaredOk B d =
+    if highTrust (B .c) (B .shape) (d .shape)
+    then both (isMet (trustOf (B .c) (B .shape) (d .shape)) (d .label))
+    (fits (B .c) (B .shape) (knownValue (B .cell) (B .bound) (d .value)) (contentOf (B .c) (B .shape) (d .shape)))
+    else true

@@ -22,8 +22,8 @@ use Rattle.typing.specs.Shapes.{View, viewOf, declaredOk}
 use Rattle.typing.specs.Rules.{fresh, fault}
 
 -- 7: "A cell declaration breaks its typing rule."
-unfoldable pub cellFault : View → List ℕ → Fault
-cellFault B s = first (λ o. not (declaredOk B (declaredAt s o))) (cellsOf s)
+unfoldable pub cellFault : View → List ℕ → List ℕ → Fault
+cellFault B s os = first (λ o. not (declaredOk B (declaredAt s o))) os
 
 -- the first fault
 unfoldable pub orThen : Fault → Fault → Fault
@@ -47,7 +47,7 @@ orRefused n (At o) v = Refused n o
 unfoldable pub typed : List ℕ → Verdict
 typed s =
     let B = viewOf (parse s) in
-    orRefused 7 (cellFault B s)
+    orRefused 7 (cellFault B s (cellsOf s))
     (orRefused 8 (stepFault B s (blocksOf s))
     (Accepted (length (shapesOf s)) (length (cellsOf s)) (length (blocksOf s)) (stepCount s (blocksOf s))))
 

@@ -1,6 +1,7 @@
 // The checker: typing rules and the verdict on a book.
 mod blocks;
 mod cells;
+mod declared;
 mod rules;
 mod shapes;
 

@@ -1,0 +1,90 @@
+// The declared cells: refusal 7.
+use crate::Known;
+use crate::shapes;
+use book::CellAt;
+use book::Declared;
+use book::Fault;
+use book::Value;
+use labels::Label;
+ghost use mathlib.Core.Path.{_≡_};
+ghost use Rattle.book.specs.Outline.{shapeIn};
+ghost use Rattle.typing.specs.Shapes.{declaredOk};
+ghost use Rattle.typing.specs.Verdict.{cellFault};
+ghost use Rattle.typing.specs.Asked.{Sound, Listed, tableView, knownIn};
+
+// What is known of a declared value.
+fn known_value(owners: &[u8], bounds: &[u8], v: Value) -> Known
+    ensures { λ r. ⌜ r ≡ knownIn (now (owners .entry)) (now (bounds .entry)) v ⌝ }
+{
+    match v {
+        Value::Plain(_) => Known::Plain,
+        Value::CellName(n) => {
+            let k = n as usize;
+            if k < owners.len() {
+                return Known::CellOf(owners[k]);
+            }
+            Known::Unknown
+        }
+        Value::CodeName(n) => {
+            let b = n as usize;
+            if b < bounds.len() {
+                return Known::Code(Label(bounds[b]));
+            }
+            Known::Unknown
+        }
+    }
+}
+
+// A declared cell meets its rule.
+fn is_declared_ok(table: &[u8], owners: &[u8], bounds: &[u8], c: Label, d: Declared) -> bool
+    requires { ⌜ Sound (shapeIn (now table)) ⌝ }
+    ensures { λ r. ⌜ r ≡ declaredOk (tableView c (now (table .entry)) (now (owners .entry)) (now (bounds .entry))) d ⌝ }
+{
+    let i = d.shape;
+    let label = d.label;
+    let value = d.value;
+    if shapes::is_high(table, c, i) {
+        let trust = shapes::trust_of(table, c, i);
+        if trust.is_met(label) {
+            let known = known_value(owners, bounds, value);
+            let x = book::shape_in(table, i);
+            return shapes::does_fit(table, c, known, x.content);
+        }
+        return false;
+    }
+    true
+}
+
+// An offset of an outline's tables.
+pub fn offset_of(x: u16) -> usize
+    ensures { λ r. ⌜ r ≡ x ⌝ }
+{
+    x as usize
+}
+
+// The first declared cell that breaks its rule.
+pub fn cell_fault(
+    book: &[u8],
+    table: &[u8],
+    owners: &[u8],
+    bounds: &[u8],
+    c: Label,
+    cells: &[u16],
+) -> Fault
+    requires { ⌜ Sound (shapeIn (now table)) × Listed (now book) (now cells) ⌝ }
+    ensures { λ r. ⌜ r ≡ cellFault (tableView c (now (table .entry)) (now (owners .entry)) (now (bounds .entry))) (now (book .entry)) (now (cells .entry)) ⌝ }
+{
+    let mut i: usize = 0;
+    while i < cells.len() {
+        let o = offset_of(cells[i]);
+        let CellAt::CellThere(d) = book::cell_at(book, o) else {
+            return Fault::Nowhere;
+        };
+        if is_declared_ok(table, owners, bounds, c, d) {
+            i = i + 1;
+        } else {
+            return Fault::At(o);
+        }
+    }
+    Fault::Nowhere
+}
