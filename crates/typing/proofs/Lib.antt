@@ -5,3 +5,4 @@ pub mod CellRules
 pub mod Dispatch
 pub mod Walks
 pub mod DeclaredRules
+pub mod BookRules

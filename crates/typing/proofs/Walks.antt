@@ -3,7 +3,7 @@
 use mathlib.Core.Path.{_≡_, refl, sym, ap, _∙_}
 use mathlib.Core.Bool.{Bool, true, false}
 use mathlib.Core.List.{List}
-use Prim.Native.Nat.{ℕ, _-_, _≤_, _<_}
+use Prim.Native.Nat.{ℕ, _+_, _-_, _≤_, _<_}
 use native.Mathlib.Omega.{arith}
 use lib.ListN.{length}
 use borrow.Author.Tests.{lt-ltb, eqb-true}
@@ -26,7 +26,7 @@ use Rattle.typing.specs.declared.Outcome.the-variants.{Passes, Stuck, Br
 use Rattle.typing.specs.declared.Stepped.{Stepped}
 use Rattle.typing.specs.Shapes.{View}
 use Rattle.typing.specs.Rules.{Typed, passes, stuck, breaks, fresh, step, fault}
-use Rattle.typing.specs.Asked.{told, stretchFault}
+use Rattle.typing.specs.Asked.{told, shifted, stretchFault}
 
 -- what was found at o, in a stretch that is whole from there on
 pub record Stood (w : List ℕ) (o : ℕ) (p : Step) (n : ℕ) : Type 0 where
@@ -56,9 +56,10 @@ module _ (w : List ℕ) (o : ℕ) (whole : Whole w o) (h : o < length w) (x : St
           let z : _≡_ {A = ℕ} 0 1 = cc in
           absurd (omega arith)
 
-pub walk-start : (B : View) (w : List ℕ) (b : Label) (s : State) (z : Fault) → s ≡ fresh b → z ≡ fault B (stepAt w) s (stepsFrom w 0) → z ≡ stretchFault B w b
+pub walk-start : (B : View) (w : List ℕ) (a : ℕ) (b : Label) (s : State) (z : Fault)
+    → s ≡ fresh b → z ≡ shifted a (fault B (stepAt w) s (stepsFrom w 0)) → z ≡ stretchFault B w a b
 unfolding stretchFault
-walk-start B w b s z e f = f ∙ simp e
+walk-start B w a b s z e f = f ∙ simp e
 
 -- what the rule said, by its outcome
 told-passes : (s : State) (t : Typed) (y : Stepped) → y ≡ told s t → y .outcome ≡ Passes → t ≡ passes (y .state)
@@ -80,14 +81,18 @@ told-breaks s stuck y e o = let a : y .outcome ≡ Stuck = ap (λ (y : Stepped).
 told-breaks s breaks y e o = refl
 
 module _ (B : View) (w : List ℕ) (s : State) (o : ℕ) (z : Fault) (inv : fault B (stepAt w) s (stepsFrom w o) ≡ z) where
-  pub walk-end : length w ≤ o → Nowhere ≡ z
-  unfolding fault
-  walk-end h = simp (steps-end w o h) at inv
+  -- f is what the walk says here
+  out : (a : ℕ) (f : Fault) → f ≡ z → shifted a f ≡ shifted a z
+  out a f e = ap (shifted a) e
+
+  pub walk-end : (a : ℕ) → length w ≤ o → Nowhere ≡ shifted a z
+  unfolding fault shifted
+  walk-end a h = out a Nowhere (simp (steps-end w o h) at inv)
 
   module _ (whole : Whole w o) (h : o < length w) (x : StepAt) (ex : x ≡ stepFound w o) where
-    pub walk-none : x ≡ NoStep → Nowhere ≡ z
-    unfolding fault
-    walk-none e = simp (steps-none w o whole h (no w o whole h x ex e)) at inv
+    pub walk-none : (a : ℕ) → x ≡ NoStep → Nowhere ≡ shifted a z
+    unfolding fault shifted
+    walk-none a e = out a Nowhere (simp (steps-none w o whole h (no w o whole h x ex e)) at inv)
 
     module _ (p : Step) (n : ℕ) (e : x ≡ StepThere p n) where
       stood : Stood w o p n
@@ -112,16 +117,16 @@ module _ (B : View) (w : List ℕ) (s : State) (o : ℕ) (z : Fault) (inv : faul
             let t = here _ (told-passes s (step B s p) y ey q) in
             rw (stood .on) (simp (steps-more w o whole h (stood .kind), fault, t) at inv)
 
-        pub walk-stuck : y .outcome ≡ Stuck → Nowhere ≡ z
-        unfolding fault
-        walk-stuck q =
+        pub walk-stuck : (a : ℕ) → y .outcome ≡ Stuck → Nowhere ≡ shifted a z
+        unfolding fault shifted
+        walk-stuck a q =
             let t = here _ (told-stuck s (step B s p) y ey q) in
-            simp (steps-more w o whole h (stood .kind), fault, t) at inv
+            out a Nowhere (simp (steps-more w o whole h (stood .kind), fault, t) at inv)
 
-        pub walk-breaks : y .outcome ≡ Breaks → At o ≡ z
-        unfolding fault
-        walk-breaks q =
+        pub walk-breaks : (a : ℕ) → y .outcome ≡ Breaks → At (a + o) ≡ shifted a z
+        unfolding fault shifted
+        walk-breaks a q =
             let t = here _ (told-breaks s (step B s p) y ey q) in
-            simp (steps-more w o whole h (stood .kind), fault, t) at inv
+            out a (At o) (simp (steps-more w o whole h (stood .kind), fault, t) at inv)
 
 pub ruleset walks = (walk-start, walk-end, walk-none, walk-whole, walk-inside, walk-falls, walk-on, walk-stuck, walk-breaks)

@@ -3,13 +3,13 @@
 --     tableView, knownIn   what typing asks of a book, from an outline's tables
 --     told, cellOn         a rule's answer as a struct; a known shape that is a cell
 --     Listed               offsets of declared cells
---     stretchFault         a block's stretch
+--     stretchFault, Laid   a block's stretch; where the blocks' stretches are
 -- Assumes nothing.
 use mathlib.Core.Path.{_≡_}
 use mathlib.Core.Bool.{Bool, not}
-use mathlib.Core.List.{List}
+use mathlib.Core.List.{List, map}
 use mathlib.Core.Option.{Option, none, some}
-use Prim.Native.Nat.{ℕ, _<_}
+use Prim.Native.Nat.{ℕ, _+_, _<_, _≤_}
 use lib.Dec.{eqb}
 use lib.ListN.{length, getD, getElem?}
 use Rattle.labels.specs.declared.Label.{Label}
@@ -18,10 +18,12 @@ use Rattle.book.specs.declared.Shape.{Shape}
 use Rattle.book.specs.declared.Value.{Value}
 use Rattle.book.specs.Control.{both}
 use Rattle.book.specs.declared.Fault.{Fault}
+use Rattle.book.specs.declared.Fault.the-variants.{Nowhere, At}
+use Rattle.book.specs.Refusals.{cutFault}
 use Rattle.book.specs.declared.CellAt.the-variants.{CellThere}
-use Rattle.book.specs.Book.{declaredAt, stepAt, stepsFrom}
+use Rattle.book.specs.Book.{blocksOf, declaredAt, stepAt, stepsFrom}
 use Rattle.book.specs.Stretch.{cellFound}
-use Rattle.book.specs.Outline.{shapeIn}
+use Rattle.book.specs.Outline.{shapeIn, boundAt, startAt, lengthAt}
 use Rattle.typing.specs.declared.Known.{Known}
 use Rattle.typing.specs.declared.Known.the-variants.{Unknown, Plain, Code, CellOf}
 use Rattle.typing.specs.declared.Cell.{Cell}
@@ -68,6 +70,19 @@ cellOn (CellOf i) = Of i
 pub record Listed (s os : List ℕ) : Type 0 where
   pub there : (i : ℕ) → i < length os → cellFound s (getD os i 0) ≡ CellThere (declaredAt s (getD os i 0))
 
--- the first step of a stretch w that breaks its rule: the walk goes by the steps that stand one after the other
-unfoldable pub stretchFault : View → List ℕ → Label → Fault
-stretchFault B w b = fault B (stepAt w) (fresh b) (stepsFrom w 0)
+-- a fault of a stretch that starts at a
+unfoldable pub shifted : ℕ → Fault → Fault
+shifted a Nowhere = Nowhere
+shifted a (At o) = At (a + o)
+
+-- the first step of a stretch w that breaks its rule, by its offset in the book, where w starts at a
+unfoldable pub stretchFault : View → List ℕ → ℕ → Label → Fault
+stretchFault B w a b = shifted a (fault B (stepAt w) (fresh b) (stepsFrom w 0))
+
+-- the bounds, starts and lengths of the blocks of a book that can be read
+pub record Laid (s bounds starts lengths : List ℕ) : Type 0 where
+  pub short : length s ≤ 32768
+  pub whole : cutFault s ≡ Nowhere
+  pub bound : bounds ≡ map (boundAt s) (blocksOf s)
+  pub start : starts ≡ map startAt (blocksOf s)
+  pub long : lengths ≡ map (lengthAt s) (blocksOf s)

@@ -4,6 +4,7 @@ use crate::Outcome;
 use crate::State;
 use crate::Stepped;
 use crate::cells;
+use crate::declared;
 use crate::rules;
 use crate::shapes;
 use book::Fault;
@@ -11,10 +12,14 @@ use book::Step;
 use book::StepAt;
 use labels::Label;
 ghost use mathlib.Core.Path.{_≡_};
+ghost use Prim.Native.Nat.{_+_, _≤_};
+ghost use lib.ListN.{length};
+ghost use Rattle.book.specs.Book.{blocksOf};
 ghost use Rattle.book.specs.Outline.{shapeIn};
 ghost use Rattle.book.specs.Asked.{Whole};
 ghost use Rattle.typing.specs.Rules.{lowStep, highStep, step};
-ghost use Rattle.typing.specs.Asked.{Sound, tableView, told, stretchFault};
+ghost use Rattle.typing.specs.Verdict.{stepFault};
+ghost use Rattle.typing.specs.Asked.{Sound, Laid, tableView, told, stretchFault};
 
 // A step at P at or below C.
 fn type_low(table: &[u8], c: Label, s: State, p: Step) -> Stepped
@@ -75,17 +80,18 @@ pub fn type_step(table: &[u8], owners: &[u8], bounds: &[u8], c: Label, s: State,
     type_high(table, owners, bounds, c, s, p)
 }
 
-// The first step of a block's stretch that breaks its rule, by its offset in the stretch.
+// The first step of a block's stretch that breaks its rule, by its offset in the book, where the stretch starts at start.
 pub fn check_block(
     table: &[u8],
     owners: &[u8],
     bounds: &[u8],
     c: Label,
     stretch: &[u8],
+    start: usize,
     bound: Label,
 ) -> Fault
-    requires { ⌜ Sound (shapeIn (now table)) × Whole (now stretch) 0 ⌝ }
-    ensures { λ x. ⌜ x ≡ stretchFault (tableView c (now (table .entry)) (now (owners .entry)) (now (bounds .entry))) (now (stretch .entry)) bound ⌝ }
+    requires { ⌜ Sound (shapeIn (now table)) × Whole (now stretch) 0 × (start + length (now stretch) ≤ 65536) ⌝ }
+    ensures { λ x. ⌜ x ≡ stretchFault (tableView c (now (table .entry)) (now (owners .entry)) (now (bounds .entry))) (now (stretch .entry)) start bound ⌝ }
 {
     let mut s = State::fresh(bound);
     let mut o: usize = 0;
@@ -105,9 +111,37 @@ pub fn check_block(
                 return Fault::Nowhere;
             }
             Outcome::Breaks => {
-                return Fault::At(o);
+                return Fault::At(start + o);
             }
         }
+    }
+    Fault::Nowhere
+}
+
+// The first step of a book that breaks its rule: each block's stretch, one after the other.
+pub fn step_fault(
+    book: &[u8],
+    table: &[u8],
+    owners: &[u8],
+    bounds: &[u8],
+    c: Label,
+    starts: &[u16],
+    lengths: &[u16],
+) -> Fault
+    requires { ⌜ Sound (shapeIn (now table)) × Laid (now book) (now bounds) (now starts) (now lengths) ⌝ }
+    ensures { λ x. ⌜ x ≡ stepFault (tableView c (now (table .entry)) (now (owners .entry)) (now (bounds .entry))) (now (book .entry)) (blocksOf (now (book .entry))) ⌝ }
+{
+    let mut i: usize = 0;
+    while i < bounds.len() {
+        let start = declared::offset_of(starts[i]);
+        let length = declared::offset_of(lengths[i]);
+        let end = start + length;
+        let stretch = &book[start..end];
+        let bound = Label(bounds[i]);
+        if let Fault::At(o) = check_block(table, owners, bounds, c, stretch, start, bound) {
+            return Fault::At(o);
+        }
+        i = i + 1;
     }
     Fault::Nowhere
 }

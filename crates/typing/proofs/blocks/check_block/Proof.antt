@@ -13,10 +13,10 @@ use Rattle.typing.proofs.blocks.check_block.Tie as tie
 use Rattle.typing.proofs.blocks.check_block.Statement.{statement}
 
 abbrev Inv-loop : tie.InvT-loop
-Inv-loop table owners bounds c stretch s₀ o₀ s o = (o ≤ length stretch) × Whole stretch o × (fault (tableView c table owners bounds) (stepAt stretch) s (stepsFrom stretch o) ≡ fault (tableView c table owners bounds) (stepAt stretch) s₀ (stepsFrom stretch o₀))
+Inv-loop table owners bounds c stretch start s₀ o₀ s o = (o ≤ length stretch) × Whole stretch o × (fault (tableView c table owners bounds) (stepAt stretch) s (stepsFrom stretch o) ≡ fault (tableView c table owners bounds) (stepAt stretch) s₀ (stepsFrom stretch o₀))
 
 abbrev μ-loop : tie.MeasureT-loop
-μ-loop table owners bounds c stretch s₀ o₀ s o = length stretch - o
+μ-loop table owners bounds c stretch start s₀ o₀ s o = length stretch - o
 
 fresh-requires : tie.Need-fresh-requires Inv-loop μ-loop
 fresh-requires c κs = search needs
@@ -57,6 +57,9 @@ returns-2 c = search walks
 enum-told-4 : tie.Need-enum-told-4 Inv-loop μ-loop
 enum-told-4 c = search needs
 
+add-t18 : tie.Need-add-t18 Inv-loop μ-loop
+add-t18 c = search needs
+
 returns-3 : tie.Need-returns-3 Inv-loop μ-loop
 returns-3 c = search walks
 
@@ -82,5 +85,6 @@ check-block-spec =
     enum-told-3
     returns-2
     enum-told-4
+    add-t18
     returns-3
     returns-4)

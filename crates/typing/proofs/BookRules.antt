@@ -1,0 +1,157 @@
+-- Laws of the blocks of a book, each checked as its own stretch.
+--     fault-shift              a fault of a stretch, by its offset in the book
+--     laids                    where the stretches are
+--     rounds                   the loop through the blocks: z is what the whole list gives
+-- Assumes nothing.
+use mathlib.Core.Path.{_≡_, refl, sym, ap, _∙_}
+use mathlib.Core.List.{List, [], _∷_, map}
+use Prim.Native.Nat.{ℕ, zero, suc, _+_, _-_, _≤_, _<_}
+use native.Mathlib.Omega.{arith}
+use native.Mathlib.Numerals.{add-one}
+use lib.ListN.{length, getD, take, drop, drop-of-length-le, length-map, length-take, length-drop}
+use lib.Seq.{drop-cons}
+use borrow.Author.Needs.{fits-under}
+use mir.Val.{Fits}
+use mir.Syntax.{w64}
+use Rattle.labels.specs.Labels.{label}
+use Rattle.book.specs.declared.Step.{Step}
+use Rattle.book.specs.declared.Fault.{Fault}
+use Rattle.book.specs.declared.Fault.the-variants.{Nowhere, At}
+use Rattle.book.specs.Records.{byteAt}
+use Rattle.book.specs.Book.{blocksOf, stepAt, stepsFrom}
+use Rattle.book.specs.Outline.{stepsEnd, boundAt, startAt, lengthAt}
+use Rattle.book.specs.Asked.{Whole}
+use Rattle.book.proofs.Groups.{block-span}
+use Rattle.book.proofs.Records.{walk}
+use Rattle.book.proofs.Past.{past-steps}
+use Rattle.book.proofs.Part.{parted}
+use Rattle.book.proofs.Blocks.{stands}
+use Rattle.typing.specs.declared.State.{State}
+use Rattle.typing.specs.Shapes.{View}
+use Rattle.typing.specs.Rules.{Typed, passes, stuck, breaks, fresh, step, fault}
+use Rattle.typing.specs.Verdict.{orThen, blockFault, stepFault}
+use Rattle.typing.specs.Asked.{shifted, stretchFault, Laid}
+
+module _ (B : View) (at to : ℕ → Step) (a : ℕ) where
+  fault-shift : (xs : List ℕ) (t : State) → map at xs ≡ map to (map (λ x. a + x) xs) → shifted a (fault B at t xs) ≡ fault B to t (map (λ x. a + x) xs)
+  unfolding fault shifted
+  fault-shift [] t e = refl
+  fault-shift (x ∷ xs) t e = go (step B t (at x)) refl (fault-shift xs)
+    where
+      here : at x ≡ to (a + x)
+      here = cc
+
+      rest : map at xs ≡ map to (map (λ x. a + x) xs)
+      rest = cc
+
+      go : (y : Typed) → step B t (at x) ≡ y
+          → ((t : State) → map at xs ≡ map to (map (λ x. a + x) xs) → shifted a (fault B at t xs) ≡ fault B to t (map (λ x. a + x) xs))
+          → shifted a (fault B at t (x ∷ xs)) ≡ fault B to t ((a + x) ∷ map (λ x. a + x) xs)
+      go (passes u) q r = let p : step B t (to (a + x)) ≡ passes u = ap (step B t) (sym here) ∙ q in simp (fault, q, p) (r u rest)
+      go stuck q r = let p : step B t (to (a + x)) ≡ stuck = ap (step B t) (sym here) ∙ q in simp (fault, q, p)
+      go breaks q r = let p : step B t (to (a + x)) ≡ breaks = ap (step B t) (sym here) ∙ q in simp (fault, q, p)
+
+nth : (f : ℕ → ℕ) (l : List ℕ) (i : ℕ) → i < length l → getD (map f l) i 0 ≡ f (getD l i 0)
+nth f [] i h = absurd (omega arith)
+nth f (x ∷ xs) zero h = refl
+nth f (x ∷ xs) (suc i) h = nth f xs i (omega arith)
+
+-- the block at o, whose record stands in the book
+pub record Block (s : List ℕ) (o : ℕ) : Type 0 where
+  pub inside : o + 2 ≤ length s
+  pub whole : Whole s (o + 2)
+
+-- as many starts and lengths as bounds
+module _ (s bounds starts lengths : List ℕ) (u : Laid s bounds starts lengths) where
+  pub laid-starts : length bounds ≡ length starts
+  laid-starts = ap length (u .bound) ∙ length-map (blocksOf s) (boundAt s) ∙ sym (length-map (blocksOf s) startAt) ∙ ap length (sym (u .start))
+
+  pub laid-lengths : length bounds ≡ length lengths
+  laid-lengths =
+      ap length (u .bound) ∙ length-map (blocksOf s) (boundAt s) ∙ sym (length-map (blocksOf s) (lengthAt s)) ∙ ap length (sym (u .long))
+
+-- block i
+module _ (s bounds starts lengths : List ℕ) (u : Laid s bounds starts lengths) (i : ℕ) (h : i < length bounds) where
+  blocks : i < length (blocksOf s)
+  blocks = let e : length bounds ≡ length (blocksOf s) = ap length (u .bound) ∙ length-map (blocksOf s) (boundAt s) in omega arith
+
+  abbrev o : ℕ
+  o = getD (blocksOf s) i 0
+
+  block : Block s o
+  block =
+      let x = stands s 4 (u .whole) i blocks in
+      let w = walk s o (x .whole) (x .inside) in
+      let n = block-span (byteAt s o) (x .kind) in
+      record { inside = rw n at (w .inside); whole = rw n at (w .rest) }
+
+  bound-is : getD bounds i 0 ≡ boundAt s o
+  bound-is = ap (λ (l : List ℕ). getD l i 0) (u .bound) ∙ nth (boundAt s) (blocksOf s) i blocks
+
+  -- where it starts, and how long it is
+  module _ (a l : ℕ) (ea : a ≡ getD starts i 0) (el : l ≡ getD lengths i 0) where
+    a-is : a ≡ o + 2
+    a-is = ea ∙ ap (λ (l : List ℕ). getD l i 0) (u .start) ∙ nth startAt (blocksOf s) i blocks
+
+    l-is : l ≡ stepsEnd s (o + 2) - (o + 2)
+    unfolding lengthAt
+    l-is = el ∙ ap (λ (l : List ℕ). getD l i 0) (u .long) ∙ nth (lengthAt s) (blocksOf s) i blocks
+
+    pub laid-inside : a + l ≤ length s
+    laid-inside =
+        let b = block in
+        let p = past-steps s (o + 2) (b .whole) (b .inside) in
+        omega (arith, a-is, l-is, p .bytes, p .inside)
+
+    pub laid-fits : Fits w64 (a + l)
+    laid-fits = fits-under w64 (a + l) 65536 (let h = laid-inside in let n = u .short in omega arith) tt
+
+    part-is : take (a + l - a) (drop a s) ≡ take (stepsEnd s (o + 2) - (o + 2)) (drop (o + 2) s)
+    part-is = let n : a + l - a ≡ stepsEnd s (o + 2) - (o + 2) = omega (arith, l-is) in rw (n, a-is) refl
+
+    pub laid-whole : Whole (take (a + l - a) (drop a s)) 0
+    laid-whole = let b = block in rw part-is (parted s (o + 2) (b .whole) (b .inside) .whole)
+
+    pub laid-small : a + length (take (a + l - a) (drop a s)) ≤ 65536
+    laid-small = let h = laid-inside in let n = u .short in simp (length-take, length-drop) (omega arith)
+
+    block-fault : (B : View) → stretchFault B (take (a + l - a) (drop a s)) a (label (getD bounds i 0)) ≡ blockFault B s o
+    unfolding stretchFault blockFault
+    block-fault B =
+        let b = block in
+        let p = parted s (o + 2) (b .whole) (b .inside) in
+        let z : o + 2 + 0 ≡ o + 2 = omega arith in
+        let w = take (stepsEnd s (o + 2) - (o + 2)) (drop (o + 2) s) in
+        let q : map (λ i. o + 2 + i) (stepsFrom w 0) ≡ stepsFrom s (o + 2) = rw z at (p .offsets) in
+        let r : map (stepAt w) (stepsFrom w 0) ≡ map (stepAt s) (stepsFrom s (o + 2)) = rw z at (p .steps) in
+        let t = fresh (label (boundAt s o)) in
+        rw (part-is, a-is, bound-is)
+        (fault-shift B (stepAt w) (stepAt s) (o + 2) (stepsFrom w 0) t (r ∙ ap (map (stepAt s)) (sym q)) ∙ ap (fault B (stepAt s) t) q)
+
+    -- x is what the block checker gave
+    module _ (B : View) (z x : Fault) (inv : stepFault B s (drop i (blocksOf s)) ≡ z)
+        (ex : x ≡ stretchFault B (take (a + l - a) (drop a s)) a (label (getD bounds i 0))) where
+      now : orThen x (stepFault B s (drop (suc i) (blocksOf s))) ≡ z
+      unfolding stepFault
+      now =
+          let e : x ≡ blockFault B s o = ex ∙ block-fault B in
+          rw e (simp (drop-cons (blocksOf s) i 0 blocks, stepFault) at inv)
+
+      pub round-bad : (p : ℕ) → x ≡ At p → At p ≡ z
+      unfolding orThen
+      round-bad p e = simp e at now
+
+      pub round-good : x ≡ Nowhere → stepFault B s (drop (i + 1) (blocksOf s)) ≡ z
+      unfolding orThen
+      round-good e = rw (add-one i) (simp e at now)
+
+pub round-end : (s bounds starts lengths : List ℕ) (u : Laid s bounds starts lengths) (i : ℕ) (B : View) (z : Fault)
+    → stepFault B s (drop i (blocksOf s)) ≡ z → length bounds ≤ i → Nowhere ≡ z
+unfolding stepFault
+round-end s bounds starts lengths u i B z inv h =
+    let e : length bounds ≡ length (blocksOf s) = ap length (u .bound) ∙ length-map (blocksOf s) (boundAt s) in
+    simp (drop-of-length-le (blocksOf s) {i = i} (omega arith)) at inv
+
+pub ruleset laids = (laid-starts, laid-lengths, laid-inside, laid-fits, laid-whole, laid-small)
+
+pub ruleset rounds = (round-bad, round-good, round-end)
