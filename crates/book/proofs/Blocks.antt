@@ -90,7 +90,7 @@ entry-at f d n i l h = get-pad d (map f l) (n - length (map f l)) i ∙ nth f d 
 
 -- what find_block answers; r is what read gave
 module _ (s : List ℕ) (r : Reading) (er : r ≡ reading s) where
-  passed : r .refusal ≡ Passed → unreadable s ≡ Passed
+  pub passed : r .refusal ≡ Passed → unreadable s ≡ Passed
   unfolding readingOf
   passed e = go (unreadable s) refl
     where
@@ -102,7 +102,7 @@ module _ (s : List ℕ) (r : Reading) (er : r ≡ reading s) where
           let c : _≡_ {A = ℕ} 0 1 = cc in
           absurd (omega arith)
 
-  outline-is : r .refusal ≡ Passed → r .outline ≡ outlineOf s
+  pub outline-is : r .refusal ≡ Passed → r .outline ≡ outlineOf s
   unfolding readingOf
   outline-is e = ap (λ (x : Reading). x .outline) (er ∙ ap (λ (x : Refusal). readingOf x s) (passed e))
 

@@ -14,5 +14,6 @@ pub mod Part
 pub mod Limits
 pub mod Gathered
 pub mod Named
+pub mod Lower
 pub mod Readable
 pub mod Blocks

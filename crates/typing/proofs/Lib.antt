@@ -6,3 +6,4 @@ pub mod Dispatch
 pub mod Walks
 pub mod DeclaredRules
 pub mod BookRules
+pub mod Tables
