@@ -2,32 +2,18 @@
 use crate::sum;
 use book::Outline;
 use book::Refusal;
-use libc::STDOUT_FILENO;
-
-fn put(text: &[u8]) {
-    io::write_all(STDOUT_FILENO, text);
-}
-
-fn number(n: usize) {
-    io::print_decimal(STDOUT_FILENO, n as u64);
-}
-
-fn refused(n: u8, place: usize) {
-    put(b"refused ");
-    number(n as usize);
-    put(b" at ");
-    number(place);
-}
+use console::number;
+use console::put;
+use console::refused;
 
 fn readable(book: &[u8], t: Outline) {
-    put(b"readable shapes ");
-    number(t.counts.shapes);
-    put(b" cells ");
-    number(t.counts.cells);
-    put(b" blocks ");
-    number(t.counts.blocks);
-    put(b" steps ");
-    number(t.counts.steps);
+    put(b"readable");
+    console::counts(
+        t.counts.shapes,
+        t.counts.cells,
+        t.counts.blocks,
+        t.counts.steps,
+    );
     put(b" sum ");
     number(sum::sum_of(book, t) as usize);
 }

@@ -2,8 +2,8 @@
 use native.Mathlib.Omega.{arith}
 use lib.ListN.{length-take}
 use borrow.Author.Needs.{needs}
-use Rattle.readings.proofs.fill.Tie as tie
-use Rattle.readings.proofs.fill.Statement.{statement}
+use Rattle.console.proofs.fill.Tie as tie
+use Rattle.console.proofs.fill.Statement.{statement}
 
 returns : tie.Need-returns
 returns c = search needs
