@@ -7,10 +7,11 @@
  * The refusals, each with the place of the first record at fault, as an offset of the book:
  *   1   the book is longer than 32,768 bytes; place 0
  *   2   a kind is none of the format's, or the book ends inside a body
- *   3   a record is out of order, or C is missing, or twice
- *   4   too many: shapes 32, cells 32, blocks 64, steps of one block 64
+ *   3   the first record is missing or not C, a record is out of order, or no block stands (place: the book's length, 0 if it is empty)
+ *   4   a record is beyond 32 shapes, 32 cells, 64 blocks or 64 steps in a block
  *   5   a label, bound or trust is above 15, C above 14, a register above 7, or a value kind above 2
- *   6   a content shape is not lower-numbered than its cell shape, or a shape, cell or block that is named does not exist
+ *   6   a content shape is not lower-numbered than its cell shape, a cell or new names no cell shape, or a declared cell or block
+ *       number does not exist
  *   7   a cell declaration breaks its typing rule
  *   8   a step breaks its typing rule
  *   12  the block asked for does not exist; place 0

@@ -1,0 +1,65 @@
+//! Times the verified check beside the reference's, on the same books in the same run. Both are
+//! release builds.
+
+mod timing;
+mod verified;
+
+use reference::{book, full_book, mixed_book, Verdict};
+
+const BOOK_A: &[u8] = include_bytes!("../../books/A1.book");
+
+/// How many blocks of `full_book` are kept. Its first cell names block 11, so 12 are the fewest.
+const KEPT_BLOCKS: [usize; 4] = [16, 32, 48, 64];
+
+fn main() {
+    println!("book           bytes   verified us  reference us   ratio");
+    time_book("A1", BOOK_A);
+    time_book("mixed_book", &mixed_book());
+    time_book("full_book", &full_book());
+
+    println!();
+    println!("full_book cut behind a number of blocks, nanoseconds for each byte");
+    println!("blocks         bytes      verified     reference");
+    let full = full_book();
+    for blocks in KEPT_BLOCKS {
+        time_cut(blocks, cut(&full, blocks));
+    }
+}
+
+fn time_book(name: &str, book: &[u8]) {
+    assert_same_verdict(book);
+    let times = timing::compare(book);
+    let ratio = times.verified / times.reference;
+    println!(
+        "{name:<12}{:>8}{:>14.3}{:>14.3}{ratio:>8.2}",
+        book.len(),
+        times.verified,
+        times.reference
+    );
+}
+
+fn time_cut(blocks: usize, book: &[u8]) {
+    assert_same_verdict(book);
+    let times = timing::compare(book);
+    let per_byte = |microseconds: f64| microseconds * 1e3 / book.len() as f64;
+    println!(
+        "{blocks:<12}{:>8}{:>14.3}{:>14.3}",
+        book.len(),
+        per_byte(times.verified),
+        per_byte(times.reference)
+    );
+}
+
+/// Both sides must accept the book, with the same counts.
+fn assert_same_verdict(book: &[u8]) {
+    let expected = reference::check(book);
+    assert!(matches!(expected, Verdict::Accepted { .. }), "{expected}");
+    assert_eq!(verified::verdict(book), expected);
+}
+
+/// The book up to the end of so many blocks.
+fn cut(bytes: &[u8], blocks: usize) -> &[u8] {
+    let book = book::read(bytes).expect("full_book is readable");
+    let last = &book.blocks[blocks - 1];
+    &bytes[..last.start + last.length]
+}
