@@ -1,5 +1,6 @@
 pub mod Tests
 pub mod Lists
+pub mod Between
 pub mod Groups
 pub mod Records
 pub mod Steps

@@ -2,7 +2,6 @@
 use crate::Fault;
 use crate::Tally;
 use crate::fields;
-use crate::tables;
 use crate::walk;
 ghost use mathlib.Core.Path.{_≡_};
 ghost use mathlib.Core.Bool.{false};
@@ -142,14 +141,95 @@ pub fn count_fault(s: &[u8]) -> Fault
     Fault::Nowhere
 }
 
-// The largest value of one of a record's first three fields; 255 where any byte will do.
-fn limit_of(kind: u8, field: usize) -> u8
-    requires { ⌜ field < 3 ⌝ }
-    ensures { λ r. ⌜ r ≡ limit kind field ⌝ }
+// The largest value of a record's first field; 255 where any byte will do, or none stands.
+fn first_limit(kind: u8) -> u8
+    ensures { λ r. ⌜ r ≡ limit kind 0 ⌝ }
 {
-    if kind < 75 {
-        let at = kind as usize * 3 + field;
-        return tables::LIMITS[at];
+    if 75 <= kind {
+        return 255;
+    }
+    if 74 <= kind {
+        return 7;
+    }
+    if 73 <= kind {
+        return 255;
+    }
+    if 72 <= kind {
+        return 15;
+    }
+    if 64 <= kind {
+        return 7;
+    }
+    if 49 <= kind {
+        return 255;
+    }
+    if 48 <= kind {
+        return 15;
+    }
+    if 18 <= kind {
+        return 255;
+    }
+    if 17 <= kind {
+        return 15;
+    }
+    if 2 <= kind {
+        return 255;
+    }
+    if 1 <= kind {
+        return 14;
+    }
+    255
+}
+
+// That of its second.
+fn second_limit(kind: u8) -> u8
+    ensures { λ r. ⌜ r ≡ limit kind 1 ⌝ }
+{
+    if 72 <= kind {
+        return 255;
+    }
+    if 71 <= kind {
+        return 15;
+    }
+    if 69 <= kind {
+        return 7;
+    }
+    if 68 <= kind {
+        return 255;
+    }
+    if 67 <= kind {
+        return 7;
+    }
+    if 33 <= kind {
+        return 255;
+    }
+    if 32 <= kind {
+        return 15;
+    }
+    if 19 <= kind {
+        return 255;
+    }
+    if 18 <= kind {
+        return 15;
+    }
+    255
+}
+
+// That of its third.
+fn third_limit(kind: u8) -> u8
+    ensures { λ r. ⌜ r ≡ limit kind 2 ⌝ }
+{
+    if 69 <= kind {
+        return 255;
+    }
+    if 67 <= kind {
+        return 7;
+    }
+    if 33 <= kind {
+        return 255;
+    }
+    if 32 <= kind {
+        return 2;
     }
     255
 }
@@ -160,13 +240,13 @@ fn out_of_range(s: &[u8], o: usize) -> bool
     ensures { λ r. ⌜ r ≡ outOfRange (now (s .entry)) o ⌝ }
 {
     let k = s[o];
-    if limit_of(k, 0) < fields::byte(s, o + 1) {
+    if first_limit(k) < fields::byte(s, o + 1) {
         return true;
     }
-    if limit_of(k, 1) < fields::byte(s, o + 2) {
+    if second_limit(k) < fields::byte(s, o + 2) {
         return true;
     }
-    limit_of(k, 2) < fields::byte(s, o + 3)
+    third_limit(k) < fields::byte(s, o + 3)
 }
 
 // 5: a label, bound or trust above 15, C above 14, a register above 7, a value kind above 2.

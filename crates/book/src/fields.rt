@@ -1,5 +1,4 @@
 // Bytes and numbers of a book, and what a kind fixes.
-use crate::tables;
 ghost use mathlib.Core.Path.{_≡_};
 ghost use Prim.Native.Nat.{_+_, _≤_};
 ghost use lib.ListN.{length};
@@ -31,12 +30,65 @@ pub fn number(s: &[u8], o: usize) -> u32
     a + 256 * b + 65536 * c + 16777216 * d
 }
 
+// The bytes of a step of a kind.
+fn step_span(kind: u8) -> u8
+    requires { ⌜ 64 ≤ kind ⌝ }
+    ensures { λ r. ⌜ r ≡ span kind ⌝ }
+{
+    if 75 <= kind {
+        return 0;
+    }
+    if 72 <= kind {
+        return 2;
+    }
+    if 69 <= kind {
+        return 3;
+    }
+    if 67 <= kind {
+        return 4;
+    }
+    if 65 <= kind {
+        return 3;
+    }
+    6
+}
+
 // The bytes of a record of a kind; 0 where no record has the kind.
 pub fn span_of(kind: u8) -> u8
     ensures { λ r. ⌜ r ≡ span kind ⌝ }
 {
-    if kind < 75 {
-        return tables::SPANS[kind as usize];
+    if 64 <= kind {
+        return step_span(kind);
+    }
+    if 49 <= kind {
+        return 0;
+    }
+    if 48 <= kind {
+        return 2;
+    }
+    if 33 <= kind {
+        return 0;
+    }
+    if 32 <= kind {
+        return 8;
+    }
+    if 19 <= kind {
+        return 0;
+    }
+    if 18 <= kind {
+        return 3;
+    }
+    if 17 <= kind {
+        return 2;
+    }
+    if 16 <= kind {
+        return 1;
+    }
+    if 2 <= kind {
+        return 0;
+    }
+    if 1 <= kind {
+        return 2;
     }
     0
 }

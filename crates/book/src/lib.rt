@@ -4,7 +4,6 @@ mod faults;
 mod fields;
 mod gather;
 mod naming;
-mod tables;
 mod walk;
 
 pub use decode::cell_at;
