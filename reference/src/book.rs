@@ -2,7 +2,7 @@
 //! refusal 12.
 
 #[cfg(test)]
-mod tests;
+pub(crate) mod tests;
 
 const LONGEST_BOOK: usize = 32_768;
 const MOST_SHAPES: usize = 32;

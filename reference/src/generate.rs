@@ -13,7 +13,7 @@ pub(crate) mod samples;
 mod stages;
 #[cfg(test)]
 mod tests;
-mod valid;
+pub(crate) mod valid;
 
 use crate::answer::ASKED_BLOCKS;
 use crate::book;

@@ -2,11 +2,11 @@
 
 use super::*;
 
-const A: &str =
+pub(crate) const A: &str =
     "01 03  10  12 00 09  20 01 09 00 05 00 00 00  30 0C  41 00 00  40 01 07 00 00 00  46 00 01";
 
 /// The bytes of a text in hexadecimal; the offset of a word is its number from 0.
-fn hex(text: &str) -> Vec<u8> {
+pub(crate) fn hex(text: &str) -> Vec<u8> {
     let words = text.split_whitespace();
     words
         .map(|word| u8::from_str_radix(word, 16).unwrap())

@@ -1,10 +1,11 @@
 //! Books that mostly keep the rules, changed by chance in one to three places, or with a step
 //! that breaks its rule.
 
-use super::walk::{any_step, draft, step_record, Size};
+use super::walk::{any_step, draft, step_record};
 use crate::book;
 use crate::generate::dice::Dice;
 use crate::generate::records::Draft;
+use crate::generate::valid::Size;
 use crate::generate::Bytes;
 use crate::typing::{check, Verdict};
 

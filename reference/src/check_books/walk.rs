@@ -6,17 +6,9 @@ use crate::generate::records::{
     add, block, c, cell, cell_shape, code, code_shape, exec, lower, name, new, plain_shape, put,
     read, relabel, start, write, Draft,
 };
+use crate::generate::valid::{size, Size};
 use crate::generate::Bytes;
 use crate::typing::{Outcome, Rules, State};
-
-/// The most records of each group.
-#[derive(Clone, Copy)]
-pub struct Size {
-    pub shapes: usize,
-    pub cells: usize,
-    pub blocks: usize,
-    pub steps: usize,
-}
 
 /// How many books of each size.
 const SIZES: [(usize, Size); 6] = [
@@ -27,15 +19,6 @@ const SIZES: [(usize, Size); 6] = [
     (6, size(32, 32, 12, 64)),
     (2, size(32, 32, 64, 64)),
 ];
-
-const fn size(shapes: usize, cells: usize, blocks: usize, steps: usize) -> Size {
-    Size {
-        shapes,
-        cells,
-        blocks,
-        steps,
-    }
-}
 
 pub fn books() -> Vec<Bytes> {
     let mut dice = Dice::new(0x5EED_0010);

@@ -26,7 +26,7 @@ const SIZES: [(usize, Size); 6] = [
     (15, size(5, 4, 3, 64)),
 ];
 
-const fn size(shapes: usize, cells: usize, blocks: usize, steps: usize) -> Size {
+pub const fn size(shapes: usize, cells: usize, blocks: usize, steps: usize) -> Size {
     Size {
         shapes,
         cells,

@@ -1,18 +1,8 @@
 //! Expectations derived by hand from document 01.
 
 use super::*;
+use crate::book::tests::{hex, A};
 use crate::book::Shape;
-
-const A: &str =
-    "01 03  10  12 00 09  20 01 09 00 05 00 00 00  30 0C  41 00 00  40 01 07 00 00 00  46 00 01";
-
-/// The bytes of a text in hexadecimal; the offset of a word is its number from 0.
-fn hex(text: &str) -> Vec<u8> {
-    let words = text.split_whitespace();
-    words
-        .map(|word| u8::from_str_radix(word, 16).unwrap())
-        .collect()
-}
 
 fn line(text: &str) -> String {
     check(&hex(text)).to_string()
