@@ -1,6 +1,6 @@
 -- Laws of a block of a book: where its record stands, its entry in the outline, and its stretch.
 --     Stands, stands            the records of a group stand in the book, whole
---     get-pad, entry-at         an entry of an outline's array
+--     get-pad, nth, entry-at    an entry of an outline's array
 --     founds                    what find_block answers
 --     stretches                 the stretch, which lies in the book
 -- Assumes nothing.
@@ -79,7 +79,8 @@ module _ {A : Type 0} (d : A) where
   get-pad (x ∷ xs) m zero = refl
   get-pad (x ∷ xs) m (suc i) = get-pad xs m i
 
-nth : {A : Type 0} (f : ℕ → A) (d : A) (l : List ℕ) (i : ℕ) → i < length l → getD (map f l) i d ≡ f (getD l i 0)
+-- an entry of a list that is made of another
+pub nth : {A : Type 0} (f : ℕ → A) (d : A) (l : List ℕ) (i : ℕ) → i < length l → getD (map f l) i d ≡ f (getD l i 0)
 nth f d [] i h = absurd (omega arith)
 nth f d (x ∷ xs) zero h = refl
 nth f d (x ∷ xs) (suc i) h = nth f d xs i (omega arith)

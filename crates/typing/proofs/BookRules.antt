@@ -5,7 +5,7 @@
 -- Assumes nothing.
 use mathlib.Core.Path.{_≡_, refl, sym, ap, _∙_}
 use mathlib.Core.List.{List, [], _∷_, map}
-use Prim.Native.Nat.{ℕ, zero, suc, _+_, _-_, _≤_, _<_}
+use Prim.Native.Nat.{ℕ, suc, _+_, _-_, _≤_, _<_}
 use native.Mathlib.Omega.{arith}
 use native.Mathlib.Numerals.{add-one}
 use lib.ListN.{length, getD, take, drop, drop-of-length-le, length-map, length-take, length-drop}
@@ -25,7 +25,7 @@ use Rattle.book.proofs.Groups.{block-span}
 use Rattle.book.proofs.Records.{walk}
 use Rattle.book.proofs.Past.{past-steps}
 use Rattle.book.proofs.Part.{parted}
-use Rattle.book.proofs.Blocks.{stands}
+use Rattle.book.proofs.Blocks.{stands, nth}
 use Rattle.typing.specs.declared.State.{State}
 use Rattle.typing.specs.Shapes.{View}
 use Rattle.typing.specs.Rules.{Typed, passes, stuck, breaks, fresh, step, fault}
@@ -50,11 +50,6 @@ module _ (B : View) (at to : ℕ → Step) (a : ℕ) where
       go (passes u) q r = let p : step B t (to (a + x)) ≡ passes u = ap (step B t) (sym here) ∙ q in simp (fault, q, p) (r u rest)
       go stuck q r = let p : step B t (to (a + x)) ≡ stuck = ap (step B t) (sym here) ∙ q in simp (fault, q, p)
       go breaks q r = let p : step B t (to (a + x)) ≡ breaks = ap (step B t) (sym here) ∙ q in simp (fault, q, p)
-
-nth : (f : ℕ → ℕ) (l : List ℕ) (i : ℕ) → i < length l → getD (map f l) i 0 ≡ f (getD l i 0)
-nth f [] i h = absurd (omega arith)
-nth f (x ∷ xs) zero h = refl
-nth f (x ∷ xs) (suc i) h = nth f xs i (omega arith)
 
 -- the block at o, whose record stands in the book
 pub record Block (s : List ℕ) (o : ℕ) : Type 0 where
@@ -86,16 +81,16 @@ module _ (s bounds starts lengths : List ℕ) (u : Laid s bounds starts lengths)
       record { inside = rw n at (w .inside); whole = rw n at (w .rest) }
 
   bound-is : getD bounds i 0 ≡ boundAt s o
-  bound-is = ap (λ (l : List ℕ). getD l i 0) (u .bound) ∙ nth (boundAt s) (blocksOf s) i blocks
+  bound-is = ap (λ (l : List ℕ). getD l i 0) (u .bound) ∙ nth (boundAt s) 0 (blocksOf s) i blocks
 
   -- where it starts, and how long it is
   module _ (a l : ℕ) (ea : a ≡ getD starts i 0) (el : l ≡ getD lengths i 0) where
     a-is : a ≡ o + 2
-    a-is = ea ∙ ap (λ (l : List ℕ). getD l i 0) (u .start) ∙ nth startAt (blocksOf s) i blocks
+    a-is = ea ∙ ap (λ (l : List ℕ). getD l i 0) (u .start) ∙ nth startAt 0 (blocksOf s) i blocks
 
     l-is : l ≡ stepsEnd s (o + 2) - (o + 2)
     unfolding lengthAt
-    l-is = el ∙ ap (λ (l : List ℕ). getD l i 0) (u .long) ∙ nth (lengthAt s) (blocksOf s) i blocks
+    l-is = el ∙ ap (λ (l : List ℕ). getD l i 0) (u .long) ∙ nth (lengthAt s) 0 (blocksOf s) i blocks
 
     pub laid-inside : a + l ≤ length s
     laid-inside =
