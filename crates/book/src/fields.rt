@@ -30,11 +30,14 @@ pub fn number(s: &[u8], o: usize) -> u32
     a + 256 * b + 65536 * c + 16777216 * d
 }
 
-// The bytes of a step of a kind.
+// The bytes of a step of a kind. Put is asked for first: the longest books are full of it.
 fn step_span(kind: u8) -> u8
     requires { ⌜ 64 ≤ kind ⌝ }
     ensures { λ r. ⌜ r ≡ span kind ⌝ }
 {
+    if kind == 64 {
+        return 6;
+    }
     if 75 <= kind {
         return 0;
     }
@@ -47,10 +50,7 @@ fn step_span(kind: u8) -> u8
     if 67 <= kind {
         return 4;
     }
-    if 65 <= kind {
-        return 3;
-    }
-    6
+    3
 }
 
 // The bytes of a record of a kind; 0 where no record has the kind.

@@ -38,41 +38,41 @@ at-none (x ∷ xs) (suc i) h = at-none xs i (omega arith)
 
 -- x is what the code hands back
 module _ (c : Label) (shape : ℕ → Shape) (s : State) (r : ℕ) (cells : List ℕ) (k : ℕ) (x : Stepped) where
-  pub name-none : length cells ≤ k → x ≡ told s breaks → x ≡ told s (naming c shape s r (getElem? cells k))
+  pub name-none : length cells ≤ k → told s x ≡ breaks → told s x ≡ naming c shape s r (getElem? cells k)
   unfolding onSome
   name-none h e = e ∙ simp (at-none cells k h)
 
   module _ (h : k < length cells) (y : Shape) (ey : y ≡ shape (getD cells k 0)) where
-    pub name-other : (y .kind ≡ 18 → ⊥) → x ≡ told s breaks → x ≡ told s (naming c shape s r (getElem? cells k))
+    pub name-other : (y .kind ≡ 18 → ⊥) → told s x ≡ breaks → told s x ≡ naming c shape s r (getElem? cells k)
     unfolding onSome need
     name-other n e = e ∙ simp (at-some cells k h, ← ey, ne-eqb _ _ n)
 
-    pub name-cell : y .kind ≡ 18 → x ≡ told s (gives s r (CellOf (getD cells k 0)) (s .p)) → x ≡ told s (naming c shape s r (getElem? cells k))
+    pub name-cell : y .kind ≡ 18 → told s x ≡ gives s r (CellOf (getD cells k 0)) (s .p) → told s x ≡ naming c shape s r (getElem? cells k)
     unfolding onSome need
     name-cell n e = e ∙ simp (at-some cells k h, ← ey, n)
 
 pub ruleset names = (name-none, name-other, name-cell)
 
 module _ (s : State) (bounds : List ℕ) (b : ℕ) (x : Stepped) where
-  pub code-none : (r : ℕ) → length bounds ≤ b → x ≡ told s breaks → x ≡ told s (coding s r (labelled (getElem? bounds b)))
+  pub code-none : (r : ℕ) → length bounds ≤ b → told s x ≡ breaks → told s x ≡ coding s r (labelled (getElem? bounds b))
   unfolding onSome labelled
   code-none r h e = e ∙ simp (at-none bounds b h)
 
-  pub code-some : (r : ℕ) → b < length bounds → x ≡ told s (gives s r (Code (label (getD bounds b 0))) (s .p))
-      → x ≡ told s (coding s r (labelled (getElem? bounds b)))
+  pub code-some : (r : ℕ) → b < length bounds → told s x ≡ gives s r (Code (label (getD bounds b 0))) (s .p)
+      → told s x ≡ coding s r (labelled (getElem? bounds b))
   unfolding onSome labelled
   code-some r h e = e ∙ simp (at-some bounds b h)
 
-  pub start-none : length bounds ≤ b → x ≡ told s breaks → x ≡ told s (starting s (labelled (getElem? bounds b)))
+  pub start-none : length bounds ≤ b → told s x ≡ breaks → told s x ≡ starting s (labelled (getElem? bounds b))
   unfolding onSome labelled
   start-none h e = e ∙ simp (at-none bounds b h)
 
   module _ (h : b < length bounds) (q : Bool) (eq : q ≡ reaches (label (getD bounds b 0)) (s .p)) where
-    pub start-low : q ≡ false → x ≡ told s breaks → x ≡ told s (starting s (labelled (getElem? bounds b)))
+    pub start-low : q ≡ false → told s x ≡ breaks → told s x ≡ starting s (labelled (getElem? bounds b))
     unfolding onSome labelled need
     start-low n e = e ∙ simp (at-some bounds b h, ← eq, n)
 
-    pub start-high : q ≡ true → x ≡ told s (passes s) → x ≡ told s (starting s (labelled (getElem? bounds b)))
+    pub start-high : q ≡ true → told s x ≡ passes s → told s x ≡ starting s (labelled (getElem? bounds b))
     unfolding onSome labelled need
     start-high n e = e ∙ simp (at-some bounds b h, ← eq, n)
 
@@ -131,7 +131,7 @@ is-of (Code b) q i e n f = let z : _≡_ {A = ℕ} 0 1 = cc in absurd (omega ari
 is-of (CellOf j) q i e n f = let z : j ≡ i = cc in ap f z
 
 module _ (c : Label) (shape : ℕ → Shape) (s : State) (r i a : ℕ) (x : Stepped) (y : Shape) (ey : y ≡ shape i) where
-  pub new-other : (y .kind ≡ 18 → ⊥) → x ≡ told s breaks → x ≡ told s (making c shape s r i a)
+  pub new-other : (y .kind ≡ 18 → ⊥) → told s x ≡ breaks → told s x ≡ making c shape s r i a
   unfolding need both
   new-other n e = e ∙ simp (← ey, ne-eqb _ _ n)
 
@@ -139,20 +139,20 @@ module _ (c : Label) (shape : ℕ → Shape) (s : State) (r i a : ℕ) (x : Step
     cell : shape i .kind ≡ 18
     cell = ap (λ (y : Shape). y .kind) (sym ey) ∙ n
 
-    pub new-low : h ≡ false → x ≡ told s (gives s r (CellOf i) (s .p)) → x ≡ told s (making c shape s r i a)
+    pub new-low : h ≡ false → told s x ≡ gives s r (CellOf i) (s .p) → told s x ≡ making c shape s r i a
     unfolding need both either
     new-low f e = e ∙ simp (← eh, f, cell)
 
-    pub new-early : h ≡ true → s .lowered ≡ false → x ≡ told s breaks → x ≡ told s (making c shape s r i a)
+    pub new-early : h ≡ true → s .lowered ≡ false → told s x ≡ breaks → told s x ≡ making c shape s r i a
     unfolding need both either
     new-early f l e = e ∙ simp (← eh, f, cell, l)
 
     module _ (f : h ≡ true) (l : s .lowered ≡ true) (d : Bool) (ed : d ≡ holds c shape s a i) where
-      pub new-not : d ≡ false → x ≡ told s breaks → x ≡ told s (making c shape s r i a)
+      pub new-not : d ≡ false → told s x ≡ breaks → told s x ≡ making c shape s r i a
       unfolding need both either
       new-not m e = e ∙ simp (← eh, f, cell, l, ← ed, m)
 
-      pub new-holds : d ≡ true → x ≡ told s (gives s r (CellOf i) (s .p)) → x ≡ told s (making c shape s r i a)
+      pub new-holds : d ≡ true → told s x ≡ gives s r (CellOf i) (s .p) → told s x ≡ making c shape s r i a
       unfolding need both either
       new-holds m e = e ∙ simp (← eh, f, cell, l, ← ed, m)
 
@@ -162,32 +162,32 @@ module _ (c : Label) (shape : ℕ → Shape) (s : State) (r w : ℕ) (x : Steppe
   low : reaches c (register s w .effect) ≡ b
   low = ap (λ (y : Register). reaches c (y .effect)) (sym ey) ∙ sym eb
 
-  pub read-low : b ≡ true → x ≡ told s (givesLow s r) → x ≡ told s (reading c shape s r w)
+  pub read-low : b ≡ true → told s x ≡ givesLow s r → told s x ≡ reading c shape s r w
   read-low h e = e ∙ simp (low, h)
 
   module _ (h : b ≡ false) (q : Cell) (eq : q ≡ cellOn (known c s w)) where
-    pub read-no : q ≡ No → x ≡ told s breaks → x ≡ told s (reading c shape s r w)
+    pub read-no : q ≡ No → told s x ≡ breaks → told s x ≡ reading c shape s r w
     read-no n e = e ∙ simp (low, h, is-none (known c s w) q eq n)
 
-    pub read-cell : (i : ℕ) → q ≡ Of i → x ≡ told s (readFrom c shape s r i) → x ≡ told s (reading c shape s r w)
+    pub read-cell : (i : ℕ) → q ≡ Of i → told s x ≡ readFrom c shape s r i → told s x ≡ reading c shape s r w
     read-cell i n e = e ∙ simp (low, h, is-of (known c s w) q i eq n)
 
 pub read-is : (c : Label) (shape : ℕ → Shape) (s : State) (r i : ℕ) (x : Stepped) (z : Shape) (k : Known) (t : Trust) (u : Label)
-    → z ≡ shape i → k ≡ knownOf c shape (z .content) → t ≡ trustOf c shape i → u ≡ capped t (s .p) → x ≡ told s (gives s r k u)
-    → x ≡ told s (readFrom c shape s r i)
+    → z ≡ shape i → k ≡ knownOf c shape (z .content) → t ≡ trustOf c shape i → u ≡ capped t (s .p) → told s x ≡ gives s r k u
+    → told s x ≡ readFrom c shape s r i
 read-is c shape s r i x z k t u ez ek et eu e = e ∙ simp (ek, eu, et, ez)
 
 pub ruleset reads = (read-low, read-no, read-cell)
 
 -- the cell that w is
 module _ (c : Label) (shape : ℕ → Shape) (s : State) (w : ℕ) (x : Stepped) (q : Cell) (eq : q ≡ cellOn (known c s w)) where
-  pub write-no : (a : ℕ) → q ≡ No → x ≡ told s breaks → x ≡ told s (writing c shape s w a)
+  pub write-no : (a : ℕ) → q ≡ No → told s x ≡ breaks → told s x ≡ writing c shape s w a
   write-no a n e = e ∙ simp (is-none (known c s w) q eq n)
 
-  pub relabel-no : (o : Label) → q ≡ No → x ≡ told s breaks → x ≡ told s (relabelling c shape s w o)
+  pub relabel-no : (o : Label) → q ≡ No → told s x ≡ breaks → told s x ≡ relabelling c shape s w o
   relabel-no o n e = e ∙ simp (is-none (known c s w) q eq n)
 
-  pub exec-no : q ≡ No → x ≡ told s breaks → x ≡ told s (executing c shape s w)
+  pub exec-no : q ≡ No → told s x ≡ breaks → told s x ≡ executing c shape s w
   exec-no n e = e ∙ simp (is-none (known c s w) q eq n)
 
   module _ (i : ℕ) (n : q ≡ Of i) (t : Trust) (et : t ≡ trustOf c shape i) where
@@ -195,29 +195,29 @@ module _ (c : Label) (shape : ℕ → Shape) (s : State) (w : ℕ) (x : Stepped)
       met : isMet (trustOf c shape i) (s .p) ≡ m
       met = ap (λ (t : Trust). isMet t (s .p)) (sym et) ∙ sym em
 
-      pub write-stuck : (a : ℕ) → m ≡ false → x ≡ told s stuck → x ≡ told s (writing c shape s w a)
+      pub write-stuck : (a : ℕ) → m ≡ false → told s x ≡ stuck → told s x ≡ writing c shape s w a
       unfolding free
       write-stuck a f e = e ∙ simp (is-of (known c s w) q i eq n, met, f)
 
       module _ (f : m ≡ true) (h : Bool) (eh : h ≡ highTrust c shape i) where
-        pub write-low : (a : ℕ) → h ≡ false → x ≡ told s (passes s) → x ≡ told s (writing c shape s w a)
+        pub write-low : (a : ℕ) → h ≡ false → told s x ≡ passes s → told s x ≡ writing c shape s w a
         unfolding free need either
         write-low a g e = e ∙ simp (is-of (known c s w) q i eq n, met, f, ← eh, g)
 
-        pub write-not : (a : ℕ) (d : Bool) → h ≡ true → d ≡ holds c shape s a i → d ≡ false → x ≡ told s breaks → x ≡ told s (writing c shape s w a)
+        pub write-not : (a : ℕ) (d : Bool) → h ≡ true → d ≡ holds c shape s a i → d ≡ false → told s x ≡ breaks → told s x ≡ writing c shape s w a
         unfolding free need either
         write-not a d g ed l e = e ∙ simp (is-of (known c s w) q i eq n, met, f, ← eh, g, ← ed, l)
 
-        pub write-holds : (a : ℕ) (d : Bool) → h ≡ true → d ≡ holds c shape s a i → d ≡ true → x ≡ told s (passes s) → x ≡ told s (writing c shape s w a)
+        pub write-holds : (a : ℕ) (d : Bool) → h ≡ true → d ≡ holds c shape s a i → d ≡ true → told s x ≡ passes s → told s x ≡ writing c shape s w a
         unfolding free need either
         write-holds a d g ed l e = e ∙ simp (is-of (known c s w) q i eq n, met, f, ← eh, g, ← ed, l)
 
-      pub relabel-stuck : (o : Label) → m ≡ false → x ≡ told s stuck → x ≡ told s (relabelling c shape s w o)
+      pub relabel-stuck : (o : Label) → m ≡ false → told s x ≡ stuck → told s x ≡ relabelling c shape s w o
       unfolding free both
       relabel-stuck o f e = e ∙ simp (is-of (known c s w) q i eq n, met, f)
 
       module _ (o : Label) (f : m ≡ true) (h : Bool) (eh : h ≡ reaches (s .p) o) where
-        pub relabel-above : h ≡ false → x ≡ told s stuck → x ≡ told s (relabelling c shape s w o)
+        pub relabel-above : h ≡ false → told s x ≡ stuck → told s x ≡ relabelling c shape s w o
         unfolding free both
         relabel-above g e = e ∙ simp (is-of (known c s w) q i eq n, met, f, ← eh, g)
 
@@ -225,11 +225,11 @@ module _ (c : Label) (shape : ℕ → Shape) (s : State) (w : ℕ) (x : Stepped)
           kept : isMet (trustOf c shape i) o ≡ d
           kept = ap (λ (t : Trust). isMet t o) (sym et) ∙ sym ed
 
-          pub relabel-not : d ≡ false → x ≡ told s breaks → x ≡ told s (relabelling c shape s w o)
+          pub relabel-not : d ≡ false → told s x ≡ breaks → told s x ≡ relabelling c shape s w o
           unfolding free both need
           relabel-not l e = e ∙ simp (is-of (known c s w) q i eq n, met, f, ← eh, g, kept, l)
 
-          pub relabel-met : d ≡ true → x ≡ told s (passes s) → x ≡ told s (relabelling c shape s w o)
+          pub relabel-met : d ≡ true → told s x ≡ passes s → told s x ≡ relabelling c shape s w o
           unfolding free both need
           relabel-met l e = e ∙ simp (is-of (known c s w) q i eq n, met, f, ← eh, g, kept, l)
 
@@ -250,11 +250,11 @@ module _ (c : Label) (shape : ℕ → Shape) (s : State) (w : ℕ) (x : Stepped)
       unfolding knownOf onCode
       code m f = simp (content, m) (ap (λ (y : Shape). f (y .bound)) content)
 
-      pub exec-other : (z .kind ≡ 17 → ⊥) → x ≡ told s breaks → x ≡ told s (executing c shape s w)
+      pub exec-other : (z .kind ≡ 17 → ⊥) → told s x ≡ breaks → told s x ≡ executing c shape s w
       exec-other m e = e ∙ simp (is-of (known c s w) q i eq n, other m)
 
       module _ (m : z .kind ≡ 17) (h : Bool) (eh : h ≡ reaches (z .bound) (s .p)) where
-        pub exec-bound : h ≡ false → x ≡ told s breaks → x ≡ told s (executing c shape s w)
+        pub exec-bound : h ≡ false → told s x ≡ breaks → told s x ≡ executing c shape s w
         unfolding need both
         exec-bound g e = e ∙ simp (is-of (known c s w) q i eq n, code m, ← eh, g)
 
@@ -262,11 +262,11 @@ module _ (c : Label) (shape : ℕ → Shape) (s : State) (w : ℕ) (x : Stepped)
           covered : covers (trustOf c shape i) (s .p) ≡ d
           covered = ap (λ (t : Trust). covers t (s .p)) (sym et) ∙ sym ed
 
-          pub exec-trust : d ≡ false → x ≡ told s breaks → x ≡ told s (executing c shape s w)
+          pub exec-trust : d ≡ false → told s x ≡ breaks → told s x ≡ executing c shape s w
           unfolding need both
           exec-trust l e = e ∙ simp (is-of (known c s w) q i eq n, code m, ← eh, g, covered, l)
 
-          pub exec-passes : d ≡ true → x ≡ told s (passes s) → x ≡ told s (executing c shape s w)
+          pub exec-passes : d ≡ true → told s x ≡ passes s → told s x ≡ executing c shape s w
           unfolding need both
           exec-passes l e = e ∙ simp (is-of (known c s w) q i eq n, code m, ← eh, g, covered, l)
 

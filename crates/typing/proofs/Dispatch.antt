@@ -21,52 +21,52 @@ use Rattle.typing.specs.Rules.{passes, breaks, need, gives, givesLow, lo
 use Rattle.typing.specs.Asked.{labelled, tableView, told}
 
 module _ (c : Label) (shape : ℕ → Shape) (s : State) (p : Step) (x : Stepped) where
-  pub low-put : (r n : ℕ) → p ≡ Put r n → x ≡ told s (givesLow s r) → x ≡ told s (lowStep c shape s p)
+  pub low-put : (r n : ℕ) → p ≡ Put r n → told s x ≡ givesLow s r → told s x ≡ lowStep c shape s p
   unfolding lowStep
   low-put r n q e = e ∙ simp q
 
-  pub low-name : (r k : ℕ) → p ≡ Name r k → x ≡ told s (givesLow s r) → x ≡ told s (lowStep c shape s p)
+  pub low-name : (r k : ℕ) → p ≡ Name r k → told s x ≡ givesLow s r → told s x ≡ lowStep c shape s p
   unfolding lowStep
   low-name r k q e = e ∙ simp q
 
-  pub low-code : (r b : ℕ) → p ≡ S.Code r b → x ≡ told s (givesLow s r) → x ≡ told s (lowStep c shape s p)
+  pub low-code : (r b : ℕ) → p ≡ S.Code r b → told s x ≡ givesLow s r → told s x ≡ lowStep c shape s p
   unfolding lowStep
   low-code r b q e = e ∙ simp q
 
-  pub low-add : (r a b : ℕ) → p ≡ Add r a b → x ≡ told s (givesLow s r) → x ≡ told s (lowStep c shape s p)
+  pub low-add : (r a b : ℕ) → p ≡ Add r a b → told s x ≡ givesLow s r → told s x ≡ lowStep c shape s p
   unfolding lowStep
   low-add r a b q e = e ∙ simp q
 
-  pub low-read : (r w : ℕ) → p ≡ Read r w → x ≡ told s (givesLow s r) → x ≡ told s (lowStep c shape s p)
+  pub low-read : (r w : ℕ) → p ≡ Read r w → told s x ≡ givesLow s r → told s x ≡ lowStep c shape s p
   unfolding lowStep
   low-read r w q e = e ∙ simp q
 
-  pub low-write : (w a : ℕ) → p ≡ Write w a → x ≡ told s (passes s) → x ≡ told s (lowStep c shape s p)
+  pub low-write : (w a : ℕ) → p ≡ Write w a → told s x ≡ passes s → told s x ≡ lowStep c shape s p
   unfolding lowStep
   low-write w a q e = e ∙ simp q
 
-  pub low-relabel : (w : ℕ) (o : Label) → p ≡ Relabel w o → x ≡ told s (passes s) → x ≡ told s (lowStep c shape s p)
+  pub low-relabel : (w : ℕ) (o : Label) → p ≡ Relabel w o → told s x ≡ passes s → told s x ≡ lowStep c shape s p
   unfolding lowStep
   low-relabel w o q e = e ∙ simp q
 
-  pub low-start : (b : ℕ) → p ≡ Start b → x ≡ told s (passes s) → x ≡ told s (lowStep c shape s p)
+  pub low-start : (b : ℕ) → p ≡ Start b → told s x ≡ passes s → told s x ≡ lowStep c shape s p
   unfolding lowStep
   low-start b q e = e ∙ simp q
 
-  pub low-exec : (w : ℕ) → p ≡ Exec w → x ≡ told s (passes s) → x ≡ told s (lowStep c shape s p)
+  pub low-exec : (w : ℕ) → p ≡ Exec w → told s x ≡ passes s → told s x ≡ lowStep c shape s p
   unfolding lowStep
   low-exec w q e = e ∙ simp q
 
-  pub low-lower : (q : Label) → p ≡ Lower q → x ≡ told s (lowering c s q) → x ≡ told s (lowStep c shape s p)
+  pub low-lower : (q : Label) → p ≡ Lower q → told s x ≡ lowering c s q → told s x ≡ lowStep c shape s p
   unfolding lowStep
   low-lower q d e = e ∙ simp d
 
   module _ (r i a : ℕ) (d : p ≡ New r i a) (h : Bool) (eh : h ≡ highTrust c shape i) where
-    pub low-new : h ≡ false → x ≡ told s (givesLow s r) → x ≡ told s (lowStep c shape s p)
+    pub low-new : h ≡ false → told s x ≡ givesLow s r → told s x ≡ lowStep c shape s p
     unfolding lowStep need
     low-new f e = e ∙ simp (d, ← eh, f)
 
-    pub low-new-not : h ≡ true → x ≡ told s breaks → x ≡ told s (lowStep c shape s p)
+    pub low-new-not : h ≡ true → told s x ≡ breaks → told s x ≡ lowStep c shape s p
     unfolding lowStep need
     low-new-not f e = e ∙ simp (d, ← eh, f)
 
@@ -74,56 +74,56 @@ pub ruleset lows =
     (low-put, low-name, low-code, low-add, low-new, low-new-not, low-read, low-write, low-relabel, low-lower, low-start, low-exec)
 
 module _ (c : Label) (table owners bounds : List ℕ) (s : State) (p : Step) (x : Stepped) where
-  pub high-put : (r n : ℕ) → p ≡ Put r n → x ≡ told s (gives s r Plain (s .p)) → x ≡ told s (highStep (tableView c table owners bounds) s p)
+  pub high-put : (r n : ℕ) → p ≡ Put r n → told s x ≡ gives s r Plain (s .p) → told s x ≡ highStep (tableView c table owners bounds) s p
   unfolding highStep
   high-put r n d e = e ∙ simp d
 
-  pub high-name : (r k : ℕ) → p ≡ Name r k → x ≡ told s (naming c (shapeIn table) s r (getElem? owners k)) → x ≡ told s (highStep (tableView c table owners bounds) s p)
+  pub high-name : (r k : ℕ) → p ≡ Name r k → told s x ≡ naming c (shapeIn table) s r (getElem? owners k) → told s x ≡ highStep (tableView c table owners bounds) s p
   unfolding highStep
   high-name r k d e = e ∙ simp d
 
-  pub high-code : (r b : ℕ) → p ≡ S.Code r b → x ≡ told s (coding s r (labelled (getElem? bounds b))) → x ≡ told s (highStep (tableView c table owners bounds) s p)
+  pub high-code : (r b : ℕ) → p ≡ S.Code r b → told s x ≡ coding s r (labelled (getElem? bounds b)) → told s x ≡ highStep (tableView c table owners bounds) s p
   unfolding highStep
   high-code r b d e = e ∙ simp d
 
-  pub high-add : (r a b : ℕ) → p ≡ Add r a b → x ≡ told s (adding c s r a b) → x ≡ told s (highStep (tableView c table owners bounds) s p)
+  pub high-add : (r a b : ℕ) → p ≡ Add r a b → told s x ≡ adding c s r a b → told s x ≡ highStep (tableView c table owners bounds) s p
   unfolding highStep
   high-add r a b d e = e ∙ simp d
 
-  pub high-new : (r i a : ℕ) → p ≡ New r i a → x ≡ told s (making c (shapeIn table) s r i a) → x ≡ told s (highStep (tableView c table owners bounds) s p)
+  pub high-new : (r i a : ℕ) → p ≡ New r i a → told s x ≡ making c (shapeIn table) s r i a → told s x ≡ highStep (tableView c table owners bounds) s p
   unfolding highStep
   high-new r i a d e = e ∙ simp d
 
-  pub high-read : (r w : ℕ) → p ≡ Read r w → x ≡ told s (reading c (shapeIn table) s r w) → x ≡ told s (highStep (tableView c table owners bounds) s p)
+  pub high-read : (r w : ℕ) → p ≡ Read r w → told s x ≡ reading c (shapeIn table) s r w → told s x ≡ highStep (tableView c table owners bounds) s p
   unfolding highStep
   high-read r w d e = e ∙ simp d
 
-  pub high-write : (w a : ℕ) → p ≡ Write w a → x ≡ told s (writing c (shapeIn table) s w a) → x ≡ told s (highStep (tableView c table owners bounds) s p)
+  pub high-write : (w a : ℕ) → p ≡ Write w a → told s x ≡ writing c (shapeIn table) s w a → told s x ≡ highStep (tableView c table owners bounds) s p
   unfolding highStep
   high-write w a d e = e ∙ simp d
 
-  pub high-relabel : (w : ℕ) (o : Label) → p ≡ Relabel w o → x ≡ told s (relabelling c (shapeIn table) s w o) → x ≡ told s (highStep (tableView c table owners bounds) s p)
+  pub high-relabel : (w : ℕ) (o : Label) → p ≡ Relabel w o → told s x ≡ relabelling c (shapeIn table) s w o → told s x ≡ highStep (tableView c table owners bounds) s p
   unfolding highStep
   high-relabel w o d e = e ∙ simp d
 
-  pub high-lower : (q : Label) → p ≡ Lower q → x ≡ told s (lowering c s q) → x ≡ told s (highStep (tableView c table owners bounds) s p)
+  pub high-lower : (q : Label) → p ≡ Lower q → told s x ≡ lowering c s q → told s x ≡ highStep (tableView c table owners bounds) s p
   unfolding highStep
   high-lower q d e = e ∙ simp d
 
-  pub high-start : (b : ℕ) → p ≡ Start b → x ≡ told s (starting s (labelled (getElem? bounds b))) → x ≡ told s (highStep (tableView c table owners bounds) s p)
+  pub high-start : (b : ℕ) → p ≡ Start b → told s x ≡ starting s (labelled (getElem? bounds b)) → told s x ≡ highStep (tableView c table owners bounds) s p
   unfolding highStep
   high-start b d e = e ∙ simp d
 
-  pub high-exec : (w : ℕ) → p ≡ Exec w → x ≡ told s (executing c (shapeIn table) s w) → x ≡ told s (highStep (tableView c table owners bounds) s p)
+  pub high-exec : (w : ℕ) → p ≡ Exec w → told s x ≡ executing c (shapeIn table) s w → told s x ≡ highStep (tableView c table owners bounds) s p
   unfolding highStep
   high-exec w d e = e ∙ simp d
 
   module _ (b : Bool) (eb : b ≡ reaches c (s .p)) where
-    pub step-low : b ≡ true → x ≡ told s (lowStep c (shapeIn table) s p) → x ≡ told s (step (tableView c table owners bounds) s p)
+    pub step-low : b ≡ true → told s x ≡ lowStep c (shapeIn table) s p → told s x ≡ step (tableView c table owners bounds) s p
     unfolding step
     step-low h e = e ∙ simp (← eb, h)
 
-    pub step-high : b ≡ false → x ≡ told s (highStep (tableView c table owners bounds) s p) → x ≡ told s (step (tableView c table owners bounds) s p)
+    pub step-high : b ≡ false → told s x ≡ highStep (tableView c table owners bounds) s p → told s x ≡ step (tableView c table owners bounds) s p
     unfolding step
     step-high h e = e ∙ simp (← eb, h)
 

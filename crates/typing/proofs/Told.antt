@@ -1,5 +1,5 @@
 -- Laws of the rules, for the code: what a callee gave stands as a variable with its equation.
---     registers, givens, lowers, adds      one set for each
+--     registers, addables, lowers, adds      one set for each
 -- Assumes nothing.
 use mathlib.Core.Path.{_≡_, refl, sym, ap, _∙_}
 use mathlib.Core.Bool.{Bool, true, false}
@@ -15,7 +15,6 @@ use Rattle.typing.specs.declared.Known.{Known}
 use Rattle.typing.specs.declared.Known.the-variants.{Unknown, Plain, Code, CellOf}
 use Rattle.typing.specs.declared.Register.{Register}
 use Rattle.typing.specs.declared.State.{State}
-use Rattle.typing.specs.declared.Outcome.the-variants.{Passes}
 use Rattle.typing.specs.declared.Stepped.{Stepped}
 use Rattle.typing.specs.Rules.{stuck, breaks, need, free, isPlainly, lowRegister, register, gives, used, known, lowered, lowering, addable, adding}
 use Rattle.typing.specs.Asked.{told}
@@ -72,47 +71,34 @@ pub ruleset registers = (register-past, used-is, known-low, known-high)
 
 pub ruleset addables = (addable-low, addable-unknown, addable-plain, addable-code, addable-cell)
 
-pub given-in : (s : State) (r : ℕ) (k : Known) (e : Label)
-    → record { outcome = Passes; state = record { p = s .p; lowered = s .lowered; registers = set (s .registers) r (record { known = k; effect = e }) } }
-    ≡ told s (gives s r k e)
-unfolding told
-given-in s r k e = refl
-
-pub given-out : {Y : Type 0} (f : Register → Y) (s : State) (r : ℕ) (k : Known) (e : Label) (n : ℕ) → length (map f (s .registers)) ≡ n → n ≤ r
-    → record { outcome = Passes; state = record { p = s .p; lowered = s .lowered; registers = s .registers } } ≡ told s (gives s r k e)
-unfolding told
-given-out f s r k e n q h = simp (set-out (s .registers) r (record { known = k; effect = e }) (omega (arith, length-map (s .registers) f)))
-
-pub ruleset givens = (given-in, given-out)
-
 -- x is what the code hands back
 module _ (c : Label) (s : State) (q : Label) (x : Stepped) (a : Bool) (ea : a ≡ reaches (s .p) q) where
-  pub lower-p : a ≡ true → x ≡ told s (lowered s q) → x ≡ told s (lowering c s q)
+  pub lower-p : a ≡ true → told s x ≡ lowered s q → told s x ≡ lowering c s q
   unfolding lowering free either
   lower-p h e = e ∙ simp (← ea, h)
 
   module _ (n : a ≡ false) (b : Bool) (eb : b ≡ reaches c q) where
-    pub lower-c : b ≡ true → x ≡ told s (lowered s q) → x ≡ told s (lowering c s q)
+    pub lower-c : b ≡ true → told s x ≡ lowered s q → told s x ≡ lowering c s q
     unfolding lowering free either
     lower-c h e = e ∙ simp (← ea, n, ← eb, h)
 
-    pub lower-stuck : b ≡ false → x ≡ told s stuck → x ≡ told s (lowering c s q)
+    pub lower-stuck : b ≡ false → told s x ≡ stuck → told s x ≡ lowering c s q
     unfolding lowering free either
     lower-stuck h e = e ∙ simp (← ea, n, ← eb, h)
 
 pub ruleset lowers = (lower-p, lower-c, lower-stuck)
 
 module _ (c : Label) (s : State) (r a b : ℕ) (x : Stepped) (i : Bool) (ei : i ≡ addable c s a) where
-  pub add-not : i ≡ false → x ≡ told s breaks → x ≡ told s (adding c s r a b)
+  pub add-not : i ≡ false → told s x ≡ breaks → told s x ≡ adding c s r a b
   unfolding need both
   add-not h e = e ∙ simp (← ei, h)
 
   module _ (h : i ≡ true) (j : Bool) (ej : j ≡ addable c s b) where
-    pub add-not-second : j ≡ false → x ≡ told s breaks → x ≡ told s (adding c s r a b)
+    pub add-not-second : j ≡ false → told s x ≡ breaks → told s x ≡ adding c s r a b
     unfolding need both
     add-not-second k e = e ∙ simp (← ei, h, ← ej, k)
 
-    pub add-both : (u v w : Label) → j ≡ true → u ≡ used s a → v ≡ used s b → w ≡ lower u v → x ≡ told s (gives s r Plain w) → x ≡ told s (adding c s r a b)
+    pub add-both : (u v w : Label) → j ≡ true → u ≡ used s a → v ≡ used s b → w ≡ lower u v → told s x ≡ gives s r Plain w → told s x ≡ adding c s r a b
     unfolding need both
     add-both u v w k eu ev ew e = e ∙ simp (← ei, h, ← ej, k, ew, eu, ev)
 

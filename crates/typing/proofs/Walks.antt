@@ -5,7 +5,8 @@ use mathlib.Core.Bool.{Bool, true, false}
 use mathlib.Core.List.{List}
 use Prim.Native.Nat.{ℕ, _+_, _-_, _≤_, _<_}
 use native.Mathlib.Omega.{arith}
-use lib.ListN.{length}
+use lib.ListN.{length, length-set, set}
+use lib.Seq.{set-out}
 use borrow.Author.Tests.{lt-ltb, eqb-true}
 use Rattle.labels.specs.declared.Label.{Label}
 use Rattle.book.specs.declared.Fault.{Fault}
@@ -22,8 +23,9 @@ use Rattle.book.specs.Asked.{Whole}
 use Rattle.book.proofs.Records.{walk}
 use Rattle.book.proofs.Steps.{steps-end, steps-none, steps-more}
 use Rattle.typing.specs.declared.State.{State}
-use Rattle.typing.specs.declared.Outcome.the-variants.{Passes, Stuck, Breaks}
+use Rattle.typing.specs.declared.Register.{Register}
 use Rattle.typing.specs.declared.Stepped.{Stepped}
+use Rattle.typing.specs.declared.Stepped.the-variants.{Passes, Gives, Lowers, Stuck, Breaks}
 use Rattle.typing.specs.Shapes.{View}
 use Rattle.typing.specs.Rules.{Typed, passes, stuck, breaks, fresh, step, fault}
 use Rattle.typing.specs.Asked.{told, shifted, stretchFault}
@@ -61,24 +63,13 @@ pub walk-start : (B : View) (w : List ℕ) (a : ℕ) (b : Label) (s : State) (z 
 unfolding stretchFault
 walk-start B w a b s z e f = f ∙ simp e
 
--- what the rule said, by its outcome
-told-passes : (s : State) (t : Typed) (y : Stepped) → y ≡ told s t → y .outcome ≡ Passes → t ≡ passes (y .state)
-unfolding told
-told-passes s (passes u) y e o = ap passes (ap (λ (y : Stepped). y .state) (sym e))
-told-passes s stuck y e o = let a : y .outcome ≡ Stuck = ap (λ (y : Stepped). y .outcome) e in let z : _≡_ {A = ℕ} 0 1 = cc in absurd (omega arith)
-told-passes s breaks y e o = let a : y .outcome ≡ Breaks = ap (λ (y : Stepped). y .outcome) e in let z : _≡_ {A = ℕ} 0 1 = cc in absurd (omega arith)
+-- there are eight registers
+pub eight-fresh : (s : State) (b : Label) → s ≡ fresh b → length (s .registers) ≡ 8
+unfolding fresh
+eight-fresh s b e = ap (λ (s : State). length (s .registers)) e
 
-told-stuck : (s : State) (t : Typed) (y : Stepped) → y ≡ told s t → y .outcome ≡ Stuck → t ≡ stuck
-unfolding told
-told-stuck s (passes u) y e o = let a : y .outcome ≡ Passes = ap (λ (y : Stepped). y .outcome) e in let z : _≡_ {A = ℕ} 0 1 = cc in absurd (omega arith)
-told-stuck s stuck y e o = refl
-told-stuck s breaks y e o = let a : y .outcome ≡ Breaks = ap (λ (y : Stepped). y .outcome) e in let z : _≡_ {A = ℕ} 0 1 = cc in absurd (omega arith)
-
-told-breaks : (s : State) (t : Typed) (y : Stepped) → y ≡ told s t → y .outcome ≡ Breaks → t ≡ breaks
-unfolding told
-told-breaks s (passes u) y e o = let a : y .outcome ≡ Passes = ap (λ (y : Stepped). y .outcome) e in let z : _≡_ {A = ℕ} 0 1 = cc in absurd (omega arith)
-told-breaks s stuck y e o = let a : y .outcome ≡ Stuck = ap (λ (y : Stepped). y .outcome) e in let z : _≡_ {A = ℕ} 0 1 = cc in absurd (omega arith)
-told-breaks s breaks y e o = refl
+pub eight-set : (l : List Register) (r : ℕ) (g : Register) → length l ≡ 8 → length (set l r g) ≡ 8
+eight-set l r g e = length-set l r g ∙ e
 
 module _ (B : View) (w : List ℕ) (s : State) (o : ℕ) (z : Fault) (inv : fault B (stepAt w) s (stepsFrom w o) ≡ z) where
   -- f is what the walk says here
@@ -107,26 +98,42 @@ module _ (B : View) (w : List ℕ) (s : State) (o : ℕ) (z : Fault) (inv : faul
       pub walk-falls : length w - n < length w - o
       walk-falls = let k = walk w o whole h in omega (arith, k .spanned, k .inside, stood .on)
 
-      module _ (y : Stepped) (ey : y ≡ told s (step B s p)) where
-        here : (t : Typed) → step B s p ≡ t → step B s (stepAt w o) ≡ t
-        here t q = ap (step B s) (sym (stood .is)) ∙ q
+      module _ (y : Stepped) (ey : told s y ≡ step B s p) where
+        here : (t : Typed) → told s y ≡ t → step B s (stepAt w o) ≡ t
+        here t q = ap (step B s) (sym (stood .is)) ∙ sym ey ∙ q
 
-        pub walk-on : y .outcome ≡ Passes → fault B (stepAt w) (y .state) (stepsFrom w n) ≡ z
+        passed : (u : State) → told s y ≡ passes u → fault B (stepAt w) u (stepsFrom w n) ≡ z
         unfolding fault
-        walk-on q =
-            let t = here _ (told-passes s (step B s p) y ey q) in
-            rw (stood .on) (simp (steps-more w o whole h (stood .kind), fault, t) at inv)
+        passed u q = rw (stood .on) (simp (steps-more w o whole h (stood .kind), fault, here (passes u) q) at inv)
 
-        pub walk-stuck : (a : ℕ) → y .outcome ≡ Stuck → Nowhere ≡ shifted a z
-        unfolding fault shifted
-        walk-stuck a q =
-            let t = here _ (told-stuck s (step B s p) y ey q) in
-            out a Nowhere (simp (steps-more w o whole h (stood .kind), fault, t) at inv)
+        pub walk-on : y ≡ Passes → fault B (stepAt w) s (stepsFrom w n) ≡ z
+        unfolding told
+        walk-on q = passed s (ap (told s) q)
 
-        pub walk-breaks : (a : ℕ) → y .outcome ≡ Breaks → At (a + o) ≡ shifted a z
-        unfolding fault shifted
-        walk-breaks a q =
-            let t = here _ (told-breaks s (step B s p) y ey q) in
-            out a (At o) (simp (steps-more w o whole h (stood .kind), fault, t) at inv)
+        pub walk-gives : (r : ℕ) (g : Register) → y ≡ Gives r g
+            → fault B (stepAt w) (record { p = s .p; lowered = s .lowered; registers = set (s .registers) r g }) (stepsFrom w n) ≡ z
+        unfolding told
+        walk-gives r g q = passed _ (ap (told s) q)
 
-pub ruleset walks = (walk-start, walk-end, walk-none, walk-whole, walk-inside, walk-falls, walk-on, walk-stuck, walk-breaks)
+        -- past the registers nothing is given
+        pub walk-gives-none : (r : ℕ) (g : Register) → y ≡ Gives r g → length (s .registers) ≡ 8 → 8 ≤ r → fault B (stepAt w) s (stepsFrom w n) ≡ z
+        unfolding told
+        walk-gives-none r g q l m =
+            let e : set (s .registers) r g ≡ s .registers = set-out (s .registers) r g (omega arith) in
+            passed s (ap (told s) q ∙ ap (λ l. passes (record { p = s .p; lowered = s .lowered; registers = l })) e)
+
+        pub walk-lowers : (q : Label) → y ≡ Lowers q
+            → fault B (stepAt w) (record { p = q; lowered = true; registers = s .registers }) (stepsFrom w n) ≡ z
+        unfolding told
+        walk-lowers q e = passed _ (ap (told s) e)
+
+        pub walk-stuck : (a : ℕ) → y ≡ Stuck → Nowhere ≡ shifted a z
+        unfolding fault shifted told
+        walk-stuck a q = out a Nowhere (simp (steps-more w o whole h (stood .kind), fault, here stuck (ap (told s) q)) at inv)
+
+        pub walk-breaks : (a : ℕ) → y ≡ Breaks → At (a + o) ≡ shifted a z
+        unfolding fault shifted told
+        walk-breaks a q = out a (At o) (simp (steps-more w o whole h (stood .kind), fault, here breaks (ap (told s) q)) at inv)
+
+pub ruleset walks =
+    (eight-fresh, eight-set, walk-start, walk-end, walk-none, walk-whole, walk-inside, walk-falls, walk-on, walk-gives, walk-gives-none, walk-lowers, walk-stuck, walk-breaks)

@@ -1,7 +1,7 @@
 -- What the functions inside this crate ask of their callers, and how they hand a rule's answer back.
 --     Sound                contents are lower-numbered
 --     tableView, knownIn   what typing asks of a book, from an outline's tables
---     told, cellOn         a rule's answer as a struct; a known shape that is a cell
+--     told, cellOn         a rule's answer; a known shape that is a cell
 --     Listed               offsets of declared cells
 --     stretchFault, Laid   a block's stretch; where the blocks' stretches are
 -- Assumes nothing.
@@ -29,10 +29,10 @@ use Rattle.typing.specs.declared.Known.the-variants.{Unknown, Plain, Cod
 use Rattle.typing.specs.declared.Cell.{Cell}
 use Rattle.typing.specs.declared.Cell.the-variants.{Of, No}
 use Rattle.typing.specs.declared.State.{State}
-use Rattle.typing.specs.declared.Outcome.the-variants.{Passes, Stuck, Breaks}
 use Rattle.typing.specs.declared.Stepped.{Stepped}
+use Rattle.typing.specs.declared.Stepped.the-variants.{Passes, Gives, Lowers, Stuck, Breaks}
 use Rattle.typing.specs.Shapes.{View, knownValue}
-use Rattle.typing.specs.Rules.{Typed, passes, stuck, breaks, fresh, fault}
+use Rattle.typing.specs.Rules.{Typed, passes, stuck, breaks, gives, lowered, fresh, fault}
 
 -- contents are lower-numbered: refusal 6
 pub record Sound (shape : ℕ → Shape) : Type 0 where
@@ -54,10 +54,13 @@ tableView c shapes cells bounds =
 unfoldable pub knownIn : List ℕ → List ℕ → Value → Known
 knownIn cells bounds v = knownValue (getElem? cells) (λ b. labelled (getElem? bounds b)) v
 
-unfoldable pub told : State → Typed → Stepped
-told t (passes u) = record { outcome = Passes; state = u }
-told t stuck = record { outcome = Stuck; state = t }
-told t breaks = record { outcome = Breaks; state = t }
+-- what the code hands back, as a rule's answer in the state s
+unfoldable pub told : State → Stepped → Typed
+told s Passes = passes s
+told s (Gives r x) = gives s r (x .known) (x .effect)
+told s (Lowers q) = lowered s q
+told s Stuck = stuck
+told s Breaks = breaks
 
 -- what is known is a cell, and of which shape
 unfoldable pub cellOn : Known → Cell

@@ -1,6 +1,5 @@
 // A block: the rule of a step, and the walk of a block's stretch.
 use crate::Known;
-use crate::Outcome;
 use crate::State;
 use crate::Stepped;
 use crate::cells;
@@ -23,7 +22,7 @@ ghost use Rattle.typing.specs.Asked.{Sound, Laid, tableView, told, stret
 
 // A step at P at or below C.
 fn type_low(table: &[u8], c: Label, s: State, p: Step) -> Stepped
-    ensures { λ x. ⌜ x ≡ told s (lowStep c (shapeIn (now (table .entry))) s p) ⌝ }
+    ensures { λ x. ⌜ told s x ≡ lowStep c (shapeIn (now (table .entry))) s p ⌝ }
 {
     match p {
         Step::Put(r, _) => rules::give_low(s, r),
@@ -48,7 +47,7 @@ fn type_low(table: &[u8], c: Label, s: State, p: Step) -> Stepped
 // A step at P above C.
 fn type_high(table: &[u8], owners: &[u8], bounds: &[u8], c: Label, s: State, p: Step) -> Stepped
     requires { ⌜ Sound (shapeIn (now table)) ⌝ }
-    ensures { λ x. ⌜ x ≡ told s (highStep (tableView c (now (table .entry)) (now (owners .entry)) (now (bounds .entry))) s p) ⌝ }
+    ensures { λ x. ⌜ told s x ≡ highStep (tableView c (now (table .entry)) (now (owners .entry)) (now (bounds .entry))) s p ⌝ }
 {
     match p {
         Step::Put(r, _) => {
@@ -71,7 +70,7 @@ fn type_high(table: &[u8], owners: &[u8], bounds: &[u8], c: Label, s: State, p: 
 // The typing rule of a step.
 pub fn type_step(table: &[u8], owners: &[u8], bounds: &[u8], c: Label, s: State, p: Step) -> Stepped
     requires { ⌜ Sound (shapeIn (now table)) ⌝ }
-    ensures { λ x. ⌜ x ≡ told s (step (tableView c (now (table .entry)) (now (owners .entry)) (now (bounds .entry))) s p) ⌝ }
+    ensures { λ x. ⌜ told s x ≡ step (tableView c (now (table .entry)) (now (owners .entry)) (now (bounds .entry))) s p ⌝ }
 {
     let label = s.p;
     if c.reaches(label) {
@@ -100,19 +99,22 @@ pub fn check_block(
             return Fault::Nowhere;
         };
         let x = type_step(table, owners, bounds, c, s, p);
-        let outcome = x.outcome;
-        match outcome {
-            Outcome::Passes => {
-                let u = x.state;
-                s = u;
+        match x {
+            Stepped::Passes => o = next,
+            Stepped::Gives(r, given) => {
+                let i = r as usize;
+                if i < 8 {
+                    s.registers[i] = given;
+                }
                 o = next;
             }
-            Outcome::Stuck => {
-                return Fault::Nowhere;
+            Stepped::Lowers(q) => {
+                s.p = q;
+                s.lowered = true;
+                o = next;
             }
-            Outcome::Breaks => {
-                return Fault::At(start + o);
-            }
+            Stepped::Stuck => return Fault::Nowhere,
+            Stepped::Breaks => return Fault::At(start + o),
         }
     }
     Fault::Nowhere

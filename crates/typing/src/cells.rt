@@ -13,7 +13,7 @@ ghost use Rattle.typing.specs.Rules.{known, holds, naming, coding, makin
 ghost use Rattle.typing.specs.Asked.{Sound, labelled, told, cellOn};
 
 pub fn name_step(shapes: &[u8], cells: &[u8], c: Label, s: State, r: u8, k: u8) -> Stepped
-    ensures { λ x. ⌜ x ≡ told s (naming c (shapeIn (now (shapes .entry))) s r (getElem? (now (cells .entry)) k)) ⌝ }
+    ensures { λ x. ⌜ told s x ≡ naming c (shapeIn (now (shapes .entry))) s r (getElem? (now (cells .entry)) k) ⌝ }
 {
     let n = k as usize;
     if n < cells.len() {
@@ -29,7 +29,7 @@ pub fn name_step(shapes: &[u8], cells: &[u8], c: Label, s: State, r: u8, k: u8) 
 }
 
 pub fn code_step(bounds: &[u8], s: State, r: u8, b: u8) -> Stepped
-    ensures { λ x. ⌜ x ≡ told s (coding s r (labelled (getElem? (now (bounds .entry)) b))) ⌝ }
+    ensures { λ x. ⌜ told s x ≡ coding s r (labelled (getElem? (now (bounds .entry)) b)) ⌝ }
 {
     let n = b as usize;
     if n < bounds.len() {
@@ -41,7 +41,7 @@ pub fn code_step(bounds: &[u8], s: State, r: u8, b: u8) -> Stepped
 }
 
 pub fn start_step(bounds: &[u8], s: State, b: u8) -> Stepped
-    ensures { λ x. ⌜ x ≡ told s (starting s (labelled (getElem? (now (bounds .entry)) b))) ⌝ }
+    ensures { λ x. ⌜ told s x ≡ starting s (labelled (getElem? (now (bounds .entry)) b)) ⌝ }
 {
     let n = b as usize;
     if n < bounds.len() {
@@ -72,7 +72,7 @@ fn does_hold(shapes: &[u8], c: Label, s: State, a: u8, i: u8) -> bool
 
 pub fn new_step(shapes: &[u8], c: Label, s: State, r: u8, i: u8, a: u8) -> Stepped
     requires { ⌜ Sound (shapeIn (now shapes)) ⌝ }
-    ensures { λ x. ⌜ x ≡ told s (making c (shapeIn (now (shapes .entry))) s r i a) ⌝ }
+    ensures { λ x. ⌜ told s x ≡ making c (shapeIn (now (shapes .entry))) s r i a ⌝ }
 {
     let p = s.p;
     let x = book::shape_in(shapes, i);
@@ -106,7 +106,7 @@ fn cell_in(c: Label, s: State, w: u8) -> Cell
 
 // Register r gets what a cell of shape i holds.
 fn read_cell(shapes: &[u8], c: Label, s: State, r: u8, i: u8) -> Stepped
-    ensures { λ x. ⌜ x ≡ told s (readFrom c (shapeIn (now (shapes .entry))) s r i) ⌝ }
+    ensures { λ x. ⌜ told s x ≡ readFrom c (shapeIn (now (shapes .entry))) s r i ⌝ }
 {
     let y = book::shape_in(shapes, i);
     let known = shapes::known_of(shapes, c, y.content);
@@ -116,7 +116,7 @@ fn read_cell(shapes: &[u8], c: Label, s: State, r: u8, i: u8) -> Stepped
 }
 
 pub fn read_step(shapes: &[u8], c: Label, s: State, r: u8, w: u8) -> Stepped
-    ensures { λ x. ⌜ x ≡ told s (reading c (shapeIn (now (shapes .entry))) s r w) ⌝ }
+    ensures { λ x. ⌜ told s x ≡ reading c (shapeIn (now (shapes .entry))) s r w ⌝ }
 {
     let x = rules::register_of(s, w);
     let effect = x.effect;
@@ -131,7 +131,7 @@ pub fn read_step(shapes: &[u8], c: Label, s: State, r: u8, w: u8) -> Stepped
 
 pub fn write_step(shapes: &[u8], c: Label, s: State, w: u8, a: u8) -> Stepped
     requires { ⌜ Sound (shapeIn (now shapes)) ⌝ }
-    ensures { λ x. ⌜ x ≡ told s (writing c (shapeIn (now (shapes .entry))) s w a) ⌝ }
+    ensures { λ x. ⌜ told s x ≡ writing c (shapeIn (now (shapes .entry))) s w a ⌝ }
 {
     match cell_in(c, s, w) {
         Cell::No => rules::fail(s),
@@ -153,7 +153,7 @@ pub fn write_step(shapes: &[u8], c: Label, s: State, w: u8, a: u8) -> Stepped
 }
 
 pub fn relabel_step(shapes: &[u8], c: Label, s: State, w: u8, o: Label) -> Stepped
-    ensures { λ x. ⌜ x ≡ told s (relabelling c (shapeIn (now (shapes .entry))) s w o) ⌝ }
+    ensures { λ x. ⌜ told s x ≡ relabelling c (shapeIn (now (shapes .entry))) s w o ⌝ }
 {
     match cell_in(c, s, w) {
         Cell::No => rules::fail(s),
@@ -175,7 +175,7 @@ pub fn relabel_step(shapes: &[u8], c: Label, s: State, w: u8, o: Label) -> Stepp
 }
 
 pub fn exec_step(shapes: &[u8], c: Label, s: State, w: u8) -> Stepped
-    ensures { λ x. ⌜ x ≡ told s (executing c (shapeIn (now (shapes .entry))) s w) ⌝ }
+    ensures { λ x. ⌜ told s x ≡ executing c (shapeIn (now (shapes .entry))) s w ⌝ }
 {
     match cell_in(c, s, w) {
         Cell::No => rules::fail(s),

@@ -42,17 +42,14 @@ pub struct State {
     pub registers: [Register; 8],
 }
 
-// What a step's rule says: the step passes, it is stuck, or it breaks the rule.
-pub enum Outcome {
+// What a step's rule says: the step passes, and nothing changes that typing sees, or a register or P does; it is stuck; or it breaks the
+// rule.
+pub enum Stepped {
     Passes,
+    Gives(u8, Register),
+    Lowers(Label),
     Stuck,
     Breaks,
-}
-
-// What a step gives: the state after it, or, where it does not pass, the state before it.
-pub struct Stepped {
-    pub outcome: Outcome,
-    pub state: State,
 }
 
 // The answer of the check.

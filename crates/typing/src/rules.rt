@@ -1,6 +1,5 @@
-// The typing rules of the steps. A rule hands back the state after the step, or, where the step does not pass, the state before it.
+// The typing rules of the steps. A rule hands back what the step changes in the state, not the state: it is a tenth of the size.
 use crate::Known;
-use crate::Outcome;
 use crate::Register;
 use crate::State;
 use crate::Stepped;
@@ -46,60 +45,40 @@ pub fn known_in(c: Label, s: State, r: u8) -> Known
     known
 }
 
-// The state after a step that changes nothing that typing sees.
+// Nothing changes that typing sees.
 pub fn pass(s: State) -> Stepped
-    ensures { λ x. ⌜ x ≡ told s (passes s) ⌝ }
+    ensures { λ x. ⌜ told s x ≡ passes s ⌝ }
 {
-    Stepped {
-        outcome: Outcome::Passes,
-        state: s,
-    }
+    Stepped::Passes
 }
 
 pub fn stop(s: State) -> Stepped
-    ensures { λ x. ⌜ x ≡ told s stuck ⌝ }
+    ensures { λ x. ⌜ told s x ≡ stuck ⌝ }
 {
-    Stepped {
-        outcome: Outcome::Stuck,
-        state: s,
-    }
+    Stepped::Stuck
 }
 
 pub fn fail(s: State) -> Stepped
-    ensures { λ x. ⌜ x ≡ told s breaks ⌝ }
+    ensures { λ x. ⌜ told s x ≡ breaks ⌝ }
 {
-    Stepped {
-        outcome: Outcome::Breaks,
-        state: s,
-    }
+    Stepped::Breaks
 }
 
 // Register r gets this known shape and effect.
 pub fn give(s: State, r: u8, known: Known, effect: Label) -> Stepped
-    ensures { λ x. ⌜ x ≡ told s (gives s r known effect) ⌝ }
+    ensures { λ x. ⌜ told s x ≡ gives s r known effect ⌝ }
 {
-    let i = r as usize;
-    let p = s.p;
-    let lowered = s.lowered;
-    let mut registers = s.registers;
-    if i < 8 {
-        registers[i] = Register {
+    Stepped::Gives(
+        r,
+        Register {
             known: known,
             effect: effect,
-        };
-    }
-    Stepped {
-        outcome: Outcome::Passes,
-        state: State {
-            p: p,
-            lowered: lowered,
-            registers: registers,
         },
-    }
+    )
 }
 
 pub fn give_low(s: State, r: u8) -> Stepped
-    ensures { λ x. ⌜ x ≡ told s (givesLow s r) ⌝ }
+    ensures { λ x. ⌜ told s x ≡ givesLow s r ⌝ }
 {
     give(s, r, Known::Unknown, Label(0))
 }
@@ -123,21 +102,13 @@ impl State {
 
 // P is the label from here on.
 fn lower_to(s: State, q: Label) -> Stepped
-    ensures { λ x. ⌜ x ≡ told s (lowered s q) ⌝ }
+    ensures { λ x. ⌜ told s x ≡ lowered s q ⌝ }
 {
-    let registers = s.registers;
-    Stepped {
-        outcome: Outcome::Passes,
-        state: State {
-            p: q,
-            lowered: true,
-            registers: registers,
-        },
-    }
+    Stepped::Lowers(q)
 }
 
 pub fn lower_step(c: Label, s: State, q: Label) -> Stepped
-    ensures { λ x. ⌜ x ≡ told s (lowering c s q) ⌝ }
+    ensures { λ x. ⌜ told s x ≡ lowering c s q ⌝ }
 {
     let p = s.p;
     if p.reaches(q) {
@@ -168,7 +139,7 @@ fn is_addable(c: Label, s: State, a: u8) -> bool
 }
 
 pub fn add_step(c: Label, s: State, r: u8, a: u8, b: u8) -> Stepped
-    ensures { λ x. ⌜ x ≡ told s (adding c s r a b) ⌝ }
+    ensures { λ x. ⌜ told s x ≡ adding c s r a b ⌝ }
 {
     if is_addable(c, s, a) {
         if is_addable(c, s, b) {

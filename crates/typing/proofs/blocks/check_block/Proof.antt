@@ -13,7 +13,7 @@ use Rattle.typing.proofs.blocks.check_block.Tie as tie
 use Rattle.typing.proofs.blocks.check_block.Statement.{statement}
 
 abbrev Inv-loop : tie.InvT-loop
-Inv-loop table owners bounds c stretch start s₀ o₀ s o = (o ≤ length stretch) × Whole stretch o × (fault (tableView c table owners bounds) (stepAt stretch) s (stepsFrom stretch o) ≡ fault (tableView c table owners bounds) (stepAt stretch) s₀ (stepsFrom stretch o₀))
+Inv-loop table owners bounds c stretch start s₀ o₀ s o = (o ≤ length stretch) × Whole stretch o × (length (s .registers) ≡ 8) × (fault (tableView c table owners bounds) (stepAt stretch) s (stepsFrom stretch o) ≡ fault (tableView c table owners bounds) (stepAt stretch) s₀ (stepsFrom stretch o₀))
 
 abbrev μ-loop : tie.MeasureT-loop
 μ-loop table owners bounds c stretch start s₀ o₀ s o = length stretch - o
@@ -22,7 +22,7 @@ fresh-requires : tie.Need-fresh-requires Inv-loop μ-loop
 fresh-requires c κs = search needs
 
 loop-holds : tie.Need-loop-holds Inv-loop μ-loop
-loop-holds c = (omega arith, search needs, refl)
+loop-holds c = (omega arith, search needs, search walks, refl)
 
 step-at-requires : tie.Need-step-at-requires Inv-loop μ-loop
 step-at-requires c κs = search needs
@@ -48,6 +48,39 @@ loop-less c = search walks
 loop-again : tie.Need-loop-again Inv-loop μ-loop
 loop-again c = search walks
 
+enum-known-x : tie.Need-enum-known-x Inv-loop μ-loop
+enum-known-x c = search needs
+
+cast-i : tie.Need-cast-i Inv-loop μ-loop
+cast-i c = search needs
+
+mul-given : tie.Need-mul-given Inv-loop μ-loop
+mul-given c = search needs
+
+element-set-from-given : tie.Need-element-set-from-given Inv-loop μ-loop
+element-set-from-given c = search needs
+
+loop-less-2 : tie.Need-loop-less-2 Inv-loop μ-loop
+loop-less-2 c = search walks
+
+loop-again-2 : tie.Need-loop-again-2 Inv-loop μ-loop
+loop-again-2 c = search walks
+
+loop-less-3 : tie.Need-loop-less-3 Inv-loop μ-loop
+loop-less-3 c = search walks
+
+loop-again-3 : tie.Need-loop-again-3 Inv-loop μ-loop
+loop-again-3 c = search walks
+
+enum-known-x-2 : tie.Need-enum-known-x-2 Inv-loop μ-loop
+enum-known-x-2 c = search needs
+
+loop-less-4 : tie.Need-loop-less-4 Inv-loop μ-loop
+loop-less-4 c = search walks
+
+loop-again-4 : tie.Need-loop-again-4 Inv-loop μ-loop
+loop-again-4 c = search walks
+
 enum-told-3 : tie.Need-enum-told-3 Inv-loop μ-loop
 enum-told-3 c = search needs
 
@@ -57,8 +90,8 @@ returns-2 c = search walks
 enum-told-4 : tie.Need-enum-told-4 Inv-loop μ-loop
 enum-told-4 c = search needs
 
-add-t18 : tie.Need-add-t18 Inv-loop μ-loop
-add-t18 c = search needs
+add-t26 : tie.Need-add-t26 Inv-loop μ-loop
+add-t26 c = search needs
 
 returns-3 : tie.Need-returns-3 Inv-loop μ-loop
 returns-3 c = search walks
@@ -82,9 +115,20 @@ check-block-spec =
     enum-told-2
     loop-less
     loop-again
+    enum-known-x
+    cast-i
+    mul-given
+    element-set-from-given
+    loop-less-2
+    loop-again-2
+    loop-less-3
+    loop-again-3
+    enum-known-x-2
+    loop-less-4
+    loop-again-4
     enum-told-3
     returns-2
     enum-told-4
-    add-t18
+    add-t26
     returns-3
     returns-4)
