@@ -1,0 +1,28 @@
+-- The sample runs, by computing them.
+-- Assumes nothing.
+use mathlib.Core.Path.{refl}
+use Rattle.labels.specs.Labels.{lower}
+use Rattle.book.specs.Control.{both, those, while}
+use Rattle.book.specs.Kinds.{span, limits, group}
+use Rattle.book.specs.Records.{numberAt, cut, recordsIn, recordsFrom}
+use Rattle.book.specs.Control.{either}
+use Rattle.book.specs.Book.{groupOf, stepsFrom, shapeAt, valueOf, declaredAt, stepAt, blockAt, parse}
+use Rattle.book.specs.Refusals.{valueNamed}
+use Rattle.typing.specs.Shapes.{onSome}
+use Rattle.machine.specs.Control.{given, onPlain, onCell, onCode}
+use Rattle.machine.specs.Acts.{execLabel, writing, relabelling, making, starting, executing}
+use Rattle.machine.specs.Steps.{sum, adding, reading, lowering, take}
+use Rattle.machine.specs.Events.{land, react, after, answers}
+use Rattle.machine.specs.Samples.{SampleRuns}
+
+pub sample-runs : SampleRuns
+unfolding lower both either those while span limits group numberAt cut recordsIn recordsFrom groupOf stepsFrom shapeAt valueOf declaredAt stepAt blockAt parse valueNamed onSome given onPlain onCell onCode execLabel writing relabelling making starting executing sum adding reading lowering take land react after answers
+sample-runs =
+    record {
+      high-answers = refl;
+      high-cells = refl;
+      stuck-answers = refl;
+      stuck-cells = refl;
+      outsider-blocked = refl;
+      outsider-refused = refl;
+    }

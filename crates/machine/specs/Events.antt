@@ -1,0 +1,153 @@
+-- Events, their answers, and a run: 01, "The machine".
+--     done, stopped, finished, noSuch     the answers
+--     Outcome, land                       an event's answer and the state after it
+--     react                               what an event does
+--     begin, after, answers               the fresh state; a list of events, one after the other
+-- Every book and every list of events has an answer, an accepted book or not, any number in any field. Assumes nothing.
+use Prim.Native.Nat.{ℕ}
+use mathlib.Core.Bool.{Bool, not}
+use mathlib.Core.List.{List, [], _∷_, _++_, map}
+use lib.Dec.{leb, ltb}
+use lib.ListN.{length, getD, set, getElem?}
+use Rattle.labels.specs.declared.Label.{Label}
+use Rattle.labels.specs.declared.Trust.{Trust}
+use Rattle.labels.specs.Labels.{label, reaches, isHigh}
+use Rattle.book.specs.declared.Declared.{Declared}
+use Rattle.book.specs.Control.{both}
+use Rattle.book.specs.Book.{Book, Block, valueOf}
+use Rattle.book.specs.Refusals.{noShape, hasCellShape, valueNamed}
+use Rattle.machine.specs.declared.Event.{Event}
+use Rattle.machine.specs.declared.Event.the-variants.{StepOf, WriteBy, RelabelBy, NewBy, ExecBy, StartBy}
+use Rattle.typing.specs.Shapes.{onSome}
+use Rattle.machine.specs.Control.{given}
+use Rattle.machine.specs.Histories.{Histories}
+use Rattle.machine.specs.States.{Traced, Cell, Job, State}
+use Rattle.machine.specs.Acts.{Effect, blocked, keep, store, create, launch, freshJob, writing, relabelling, making, starting, executing}
+use Rattle.machine.specs.Steps.{Turn, take}
+
+-- "Answer bytes: 0 done, 1 blocked, 2 no step left, 3 no such."
+abbrev pub done : ℕ
+done = 0
+
+abbrev pub stopped : ℕ
+stopped = 1
+
+abbrev pub finished : ℕ
+finished = 2
+
+abbrev pub noSuch : ℕ
+noSuch = 3
+
+-- "to 64 cells and 64 jobs in a run"
+abbrev pub tableSize : ℕ
+tableSize = 64
+
+-- "Declared values have history 15."
+abbrev pub topLabel : Label
+topLabel = label 15
+
+-- a block by its number; one that does not exist has bound 0 and no steps
+abbrev pub noBlock : Block
+noBlock = record { bound = label 0; steps = [] }
+
+abbrev pub blockOf : Book → ℕ → Block
+blockOf K b = getD (K .blocks) b noBlock
+
+-- a shape's trust, as the book states it
+abbrev pub trustOf : Book → ℕ → Trust
+trustOf K i = getD (K .shapes) i noShape .trust
+
+-- Answer 3, "a job, cell, block or shape that doesn't exist (also one that the event's value names), Q above C, a label above 15, a
+-- value kind above 2, or event 83 with a shape that is no cell shape or has trust above C": what an event must have instead.
+abbrev pub isOutsider : Book → Label → Bool
+isOutsider K q = reaches (K .c) q
+
+abbrev pub isLabel : Label → Bool
+isLabel o = reaches topLabel o
+
+abbrev pub isLowCellShape : Book → ℕ → Bool
+isLowCellShape K i = both (hasCellShape K i) (not (isHigh (trustOf K i) (K .c)))
+
+abbrev pub isBlock : Book → ℕ → Bool
+isBlock K b = ltb b (length (K .blocks))
+
+module _ {H : Type 0} (K : Book) (s : State H) where
+  abbrev pub isCell : ℕ → Bool
+  isCell k = ltb k (length (s .cells))
+
+  -- a value of kind k and number n
+  abbrev pub isValue : ℕ → ℕ → Bool
+  isValue k n = both (leb k 2) (valueNamed (length (s .cells)) (length (K .blocks)) (valueOf k n))
+
+-- an event's answer, and the state after it
+pub record Outcome (H : Type 0) : Type 0 where
+  pub answer : ℕ
+  pub state : State H
+
+module _ {H : Type 0} where
+  -- answers 1 to 3: "changes nothing"
+  abbrev pub halt : ℕ → State H → Outcome H
+  halt n s = record { answer = n; state = s }
+
+  abbrev pub ends : State H → Outcome H
+  ends t = record { answer = done; state = t }
+
+  -- the effect on the tables; s is the state before, t the same with the actor's step done
+  unfoldable pub land : State H → State H → Effect H → Outcome H
+  land s t blocked = halt stopped s
+  land s t keep = ends t
+  land s t (store k c) = ends (record { cells = set (t .cells) k c; jobs = t .jobs })
+  land s t (create c) = ends (record { cells = t .cells ++ (c ∷ []); jobs = t .jobs })
+  land s t (launch j) = ends (record { cells = t .cells; jobs = t .jobs ++ (j ∷ []) })
+
+  -- the turn of job i
+  abbrev pub landTurn : State H → ℕ → Turn H → Outcome H
+  landTurn s i t = land s (record { cells = s .cells; jobs = set (s .jobs) i (t .job) }) (t .effect)
+
+  -- "Answer 3 comes first and changes nothing"
+  abbrev pub ifSuch : State H → Bool → Outcome H → Outcome H
+  ifSuch s b o = given b o (halt noSuch s)
+
+-- over any histories, in tables of this size
+module _ (A : Histories) (size : ℕ) (K : Book) where
+  open Histories A using (H, one, join)
+
+  -- "their history is Q, which is also the history of the value they bring"
+  abbrev pub brought : Label → ℕ → ℕ → Traced H
+  brought q k n = record { value = valueOf k n; history = one q }
+
+  unfoldable pub react : State H → Event → Outcome H
+  react s (StepOf i) =
+      onSome (getElem? (s .jobs) i) (halt noSuch s)
+      (λ j. onSome (getElem? (blockOf K (j .block) .steps) (j .position)) (halt finished s)
+      (λ p. landTurn s i (take A size s j p)))
+  react s (WriteBy q k v n) =
+      ifSuch s (both (isOutsider K q) (both (isCell K s k) (isValue K s v n))) (land s s (writing A size s q (one q) k (brought q v n)))
+  react s (RelabelBy q k o) =
+      ifSuch s (both (isOutsider K q) (both (isCell K s k) (isLabel o))) (land s s (relabelling A size s q (one q) k o))
+  react s (NewBy q i v n) =
+      ifSuch s (both (isOutsider K q) (both (isLowCellShape K i) (isValue K s v n))) (land s s (making A size s q (one q) i (brought q v n)))
+  react s (ExecBy q k) = ifSuch s (both (isOutsider K q) (isCell K s k)) (land s s (executing A size s q (one q) k))
+  react s (StartBy q b) = ifSuch s (both (isOutsider K q) (isBlock K b)) (land s s (starting A size s q (one q) b))
+
+  -- "its cells are the declared ones with their declared labels and values"
+  abbrev pub declared : Declared → Cell H
+  declared d = record { shape = d .shape; label = d .label; content = record { value = d .value; history = one topLabel } }
+
+  -- "A run begins fresh: .. job 0 is its only job". It runs block 0 at the launch label, which is also its history.
+  abbrev pub begin : Label → State H
+  begin l = record { cells = map declared (K .cells); jobs = freshJob A 0 l (one l) ∷ [] }
+
+  -- the state after a list of events, one after the other
+  unfoldable pub after : State H → List Event → State H
+  after s [] = s
+  after s (e ∷ es) = after (react s e .state) es
+
+  -- their answers
+  unfoldable pub answers : State H → List Event → List ℕ
+  answers s [] = []
+  answers s (e ∷ es) = react s e .answer ∷ answers (react s e .state) es
+
+-- "Job 0 runs block 0 at its bound, history that bound."
+abbrev pub launchLabel : Book → Label
+launchLabel K = blockOf K 0 .bound

@@ -1,0 +1,103 @@
+-- A step of a job: 01, "The machine". Each kind of step is one definition.
+--     Turn                 the job after its step, and what the step does to the tables
+--     register, gets       a register of a job; a job whose step gave a register
+--     adding, .., take     each kind of step; a step
+-- Assumes nothing.
+use Prim.Native.Nat.{ℕ, suc, _+_, _%_}
+use lib.ListN.{length, getD, set, getElem?}
+use Rattle.labels.specs.declared.Label.{Label}
+use Rattle.labels.specs.Labels.{reaches}
+use Rattle.book.specs.declared.Value.{Value}
+use Rattle.book.specs.declared.Value.the-variants.{Plain, CellName, CodeName}
+use Rattle.book.specs.declared.Step.{Step}
+use Rattle.book.specs.declared.Step.the-variants.{Put, Name, Code, Add, New, Read, Write, Relabel, Lower, Start, Exec}
+use Rattle.typing.specs.Shapes.{onSome}
+use Rattle.machine.specs.Control.{given, onPlain, onCell}
+use Rattle.machine.specs.Histories.{Histories}
+use Rattle.machine.specs.States.{Traced, Cell, Job, State}
+use Rattle.machine.specs.Acts.{Effect, blocked, keep, acted, zeroWith, writing, relabelling, making, starting, executing}
+
+-- Where the effect is blocked, the job is left as it was: "\"Blocked\" changes nothing; the job may be stepped again later."
+pub record Turn (H : Type 0) : Type 0 where
+  pub job : Job H
+  pub effect : Effect H
+
+-- "the sum modulo 4,294,967,296"
+unfoldable pub sum : ℕ → ℕ → ℕ
+sum x y = (x + y) % 4294967296
+
+-- over any histories
+module _ (A : Histories) where
+  open Histories A using (H, one, join)
+
+  abbrev pub register : Job H → ℕ → Traced H
+  register j r = getD (j .registers) r (zeroWith A (j .history))
+
+  abbrev pub turn : Job H → Effect H → Turn H
+  turn j e = record { job = j; effect = e }
+
+  abbrev pub stay : Job H → Turn H
+  stay j = turn j blocked
+
+  -- the step is done
+  abbrev pub moved : Job H → Job H
+  moved j = record { block = j .block; position = suc (j .position); label = j .label; registers = j .registers; history = j .history }
+
+  -- the step is done, and register r has this value
+  abbrev pub gets : Job H → ℕ → Value → H → Job H
+  gets j r v h =
+      record {
+        block = j .block;
+        position = suc (j .position);
+        label = j .label;
+        registers = set (j .registers) r (record { value = v; history = h });
+        history = j .history;
+      }
+
+  -- "put, name, code: a value with the job's history."
+  abbrev pub giving : Job H → ℕ → Value → Turn H
+  giving j r v = turn (gets j r v (j .history)) keep
+
+  -- "add: blocked unless both are plain; the sum modulo 4,294,967,296; both histories, then the act."
+  unfoldable pub adding : Job H → ℕ → Traced H → Traced H → Turn H
+  adding j r a b =
+      onPlain (a .value) (stay j)
+      (λ x. onPlain (b .value) (stay j)
+      (λ y. turn (gets j r (Plain (sum x y)) (join (join (a .history) (b .history)) (j .history))) keep))
+
+  -- "read: blocked unless w is a cell; r gets the content (an act)."
+  unfoldable pub reading : State H → Job H → ℕ → ℕ → Turn H
+  reading s j r w =
+      onCell (register j w .value) (stay j)
+      (λ k. onSome (getElem? (s .cells) k) (stay j)
+      (λ c. turn (gets j r (c .content .value) (acted A (j .history) (c .content) .history)) keep))
+
+  -- "lower Q: blocked if Q is above the job's label; else the label is Q, appended to the job's history."
+  unfoldable pub lowering : Job H → Label → Turn H
+  lowering j q =
+      given (reaches (j .label) q)
+      (turn
+      (record { block = j .block; position = suc (j .position); label = q; registers = j .registers; history = join (j .history) (one q) })
+      keep)
+      (stay j)
+
+  -- an act on the cell that register w names: "blocked unless w is a cell"
+  abbrev pub through : Job H → ℕ → (ℕ → Effect H) → Turn H
+  through j w act = onCell (register j w .value) (stay j) (λ k. turn (moved j) (act k))
+
+  -- A step of job j, in tables of this size.
+  module _ (size : ℕ) (s : State H) (j : Job H) where
+    unfoldable pub take : Step → Turn H
+    take (Put r n) = giving j r (Plain n)
+    take (Name r k) = giving j r (CellName k)
+    take (Code r b) = giving j r (CodeName b)
+    take (Add r a b) = adding j r (register j a) (register j b)
+    -- "r gets its name with the job's history"
+    take (New r i a) =
+        turn (gets j r (CellName (length (s .cells))) (j .history)) (making A size s (j .label) (j .history) i (register j a))
+    take (Read r w) = reading s j r w
+    take (Write w a) = through j w (λ k. writing A size s (j .label) (j .history) k (register j a))
+    take (Relabel w o) = through j w (λ k. relabelling A size s (j .label) (j .history) k o)
+    take (Lower q) = lowering j q
+    take (Start b) = turn (moved j) (starting A size s (j .label) (j .history) b)
+    take (Exec w) = through j w (executing A size s (j .label) (j .history))
