@@ -42,7 +42,7 @@ noSuch = 3
 abbrev pub tableSize : ℕ
 tableSize = 64
 
--- "Declared values have history 15."
+-- "Labels are 0 to 15"
 abbrev pub topLabel : Label
 topLabel = label 15
 
@@ -52,6 +52,10 @@ noBlock = record { bound = label 0; steps = [] }
 
 abbrev pub blockOf : Book → ℕ → Block
 blockOf K b = getD (K .blocks) b noBlock
+
+-- "Job 0 runs block 0 at its bound, history that bound."
+abbrev pub launchLabel : Book → Label
+launchLabel K = blockOf K 0 .bound
 
 -- a shape's trust, as the book states it
 abbrev pub trustOf : Book → ℕ → Trust
@@ -101,12 +105,24 @@ module _ {H : Type 0} where
   land s t (launch j) = ends (record { cells = t .cells; jobs = t .jobs ++ (j ∷ []) })
 
   -- the turn of job i
-  abbrev pub landTurn : State H → ℕ → Turn H → Outcome H
+  unfoldable pub landTurn : State H → ℕ → Turn H → Outcome H
   landTurn s i t = land s (record { cells = s .cells; jobs = set (s .jobs) i (t .job) }) (t .effect)
 
   -- "Answer 3 comes first and changes nothing"
   abbrev pub ifSuch : State H → Bool → Outcome H → Outcome H
   ifSuch s b o = given b o (halt noSuch s)
+
+-- over any histories
+module _ (A : Histories) where
+  open Histories A using (H, one)
+
+  -- "its cells are the declared ones with their declared labels and values". "Declared values have history 15."
+  abbrev pub declared : Declared → Cell H
+  declared d = record { shape = d .shape; label = d .label; content = record { value = d .value; history = one topLabel } }
+
+  -- "A run begins fresh: .. job 0 is its only job". It runs block 0 at the launch label, which is also its history.
+  abbrev pub begin : Book → Label → State H
+  begin K l = record { cells = map declared (K .cells); jobs = freshJob A 0 l (one l) ∷ [] }
 
 -- over any histories, in tables of this size
 module _ (A : Histories) (size : ℕ) (K : Book) where
@@ -130,14 +146,6 @@ module _ (A : Histories) (size : ℕ) (K : Book) where
   react s (ExecBy q k) = ifSuch s (both (isOutsider K q) (isCell K s k)) (land s s (executing A size s q (one q) k))
   react s (StartBy q b) = ifSuch s (both (isOutsider K q) (isBlock K b)) (land s s (starting A size s q (one q) b))
 
-  -- "its cells are the declared ones with their declared labels and values"
-  abbrev pub declared : Declared → Cell H
-  declared d = record { shape = d .shape; label = d .label; content = record { value = d .value; history = one topLabel } }
-
-  -- "A run begins fresh: .. job 0 is its only job". It runs block 0 at the launch label, which is also its history.
-  abbrev pub begin : Label → State H
-  begin l = record { cells = map declared (K .cells); jobs = freshJob A 0 l (one l) ∷ [] }
-
   -- the state after a list of events, one after the other
   unfoldable pub after : State H → List Event → State H
   after s [] = s
@@ -147,7 +155,3 @@ module _ (A : Histories) (size : ℕ) (K : Book) where
   unfoldable pub answers : State H → List Event → List ℕ
   answers s [] = []
   answers s (e ∷ es) = react s e .answer ∷ answers (react s e .state) es
-
--- "Job 0 runs block 0 at its bound, history that bound."
-abbrev pub launchLabel : Book → Label
-launchLabel K = blockOf K 0 .bound

@@ -4,5 +4,6 @@ pub mod States
 pub mod Acts
 pub mod Steps
 pub mod Events
+pub mod Images
 pub mod Records
 pub mod Samples

@@ -17,10 +17,10 @@ abbrev pub ofBound : ℕ → Book
 ofBound b = parse (bookA 0x09 0x09 b write)
 
 abbrev pub answersOf : Book → List Event → List ℕ
-answersOf K es = answers lists tableSize K (begin lists tableSize K (launchLabel K)) es
+answersOf K es = answers lists tableSize K (begin lists K (launchLabel K)) es
 
 abbrev pub cellsAfter : Book → List Event → List CellRecord
-cellsAfter K es = cellRecords K (after lists tableSize K (begin lists tableSize K (launchLabel K)) es)
+cellsAfter K es = cellRecords K (after lists tableSize K (begin lists K (launchLabel K)) es)
 
 -- "50 00 four times"
 abbrev pub fourSteps : List Event

@@ -1,0 +1,137 @@
+-- The machine over the images of histories is the image of the machine: no test reads a history.
+--     images       the law, for any image of histories
+-- Assumes nothing.
+use mathlib.Core.Path.{_≡_, refl, ap, ap₂, _∙_}
+use mathlib.Core.List.{List, [], _∷_, _++_, map}
+use Prim.Native.Nat.{ℕ}
+use lib.ListN.{length, length-map, List·getD-map}
+use Rattle.labels.specs.declared.Label.{Label}
+use Rattle.book.specs.declared.Declared.{Declared}
+use Rattle.book.specs.declared.Step.{Step}
+use Rattle.book.specs.declared.Step.the-variants.{Put, Name, Code, Add, New, Read, Write, Relabel, Lower, Start, Exec}
+use Rattle.book.specs.Book.{Book}
+use Rattle.typing.specs.Shapes.{onSome}
+use Rattle.machine.specs.declared.Event.{Event}
+use Rattle.machine.specs.declared.Event.the-variants.{StepOf, WriteBy, RelabelBy, NewBy, ExecBy, StartBy}
+use Rattle.machine.specs.Histories.{Histories}
+use Rattle.machine.specs.States.{Traced, Cell, Job, State}
+use Rattle.machine.specs.Acts.{Effect, blocked, keep, store, create, launch, zeroWith, writing, relabelling, making, starting, executing}
+use Rattle.machine.specs.Steps.{Turn, register, adding, reading, lowering, take}
+use Rattle.machine.specs.Events.{Outcome, land, landTurn, react, declared, begin, after, answers}
+use Rattle.machine.specs.Images.{Image, tracedImage, cellImage, jobImage, stateImage, outcomeImage, Images}
+use Rattle.machine.proofs.Maps.{map-set, map-append, getElem?-map, given-map, onSome-map, onPlain-map, onCell-map, onCode-map, onSome-entry}
+
+module _ {G H : Type 0} (f : G → H) where
+  unfoldable effectImage : Effect G → Effect H
+  effectImage blocked = blocked
+  effectImage keep = keep
+  effectImage (store k c) = store k (cellImage f c)
+  effectImage (create c) = create (cellImage f c)
+  effectImage (launch j) = launch (jobImage f j)
+
+  abbrev turnImage : Turn G → Turn H
+  turnImage t = record { job = jobImage f (t .job); effect = effectImage (t .effect) }
+
+module _ (A B : Histories) (i : Image A B) where
+  open Image i using (of, of-one, of-join)
+
+  register-image : (j : Job (A .H)) (r : ℕ) → register B (jobImage of j) r ≡ tracedImage of (register A j r)
+  register-image j r = List·getD-map (tracedImage of) (j .registers) r (zeroWith A (j .history))
+
+  -- the acts
+  module _ (size : ℕ) (s : State (A .H)) (l : Label) (h : A .H) where
+    writing-image : (k : ℕ) (v : Traced (A .H)) → effectImage of (writing A size s l h k v) ≡ writing B size (stateImage of s) l (of h) k (tracedImage of v)
+    unfolding writing effectImage
+    writing-image k v = simp (getElem?-map (cellImage of), onSome-entry, onSome-map (effectImage of), given-map (effectImage of), of-join)
+
+    relabelling-image : (k : ℕ) (o : Label) → effectImage of (relabelling A size s l h k o) ≡ relabelling B size (stateImage of s) l (of h) k o
+    unfolding relabelling effectImage
+    relabelling-image k o = simp (getElem?-map (cellImage of), onSome-entry, onSome-map (effectImage of), given-map (effectImage of))
+
+    making-image : (k : ℕ) (v : Traced (A .H)) → effectImage of (making A size s l h k v) ≡ making B size (stateImage of s) l (of h) k (tracedImage of v)
+    unfolding making effectImage
+    making-image k v = simp (length-map, given-map (effectImage of), of-join)
+
+    starting-image : (b : ℕ) → effectImage of (starting A size s l h b) ≡ starting B size (stateImage of s) l (of h) b
+    unfolding starting effectImage
+    starting-image b = simp (length-map, given-map (effectImage of))
+
+    executing-image : (k : ℕ) → effectImage of (executing A size s l h k) ≡ executing B size (stateImage of s) l (of h) k
+    unfolding executing effectImage
+    executing-image k =
+        simp (getElem?-map (cellImage of), onSome-entry, onSome-map (effectImage of), onCode-map (effectImage of), length-map, given-map (effectImage of), of-join, of-one)
+
+  -- a step
+  module _ (size : ℕ) (s : State (A .H)) (j : Job (A .H)) where
+    take-image : (p : Step) → turnImage of (take A size s j p) ≡ take B size (stateImage of s) (jobImage of j) p
+    unfolding take adding reading lowering effectImage
+    take-image (Put r n) = simp (map-set (tracedImage of))
+    take-image (Name r k) = simp (map-set (tracedImage of))
+    take-image (Code r b) = simp (map-set (tracedImage of))
+    take-image (Add r a b) = simp (register-image j, onPlain-map (turnImage of), map-set (tracedImage of), of-join)
+    take-image (New r k a) = simp (length-map, register-image j, map-set (tracedImage of), making-image)
+    take-image (Read r w) =
+        simp (register-image j, onCell-map (turnImage of), getElem?-map (cellImage of), onSome-entry, onSome-map (turnImage of), map-set (tracedImage of), of-join)
+    take-image (Write w a) = simp (register-image j, onCell-map (turnImage of), writing-image)
+    take-image (Relabel w o) = simp (register-image j, onCell-map (turnImage of), relabelling-image)
+    take-image (Lower q) = simp (given-map (turnImage of), of-join, of-one)
+    take-image (Start b) = simp starting-image
+    take-image (Exec w) = simp (register-image j, onCell-map (turnImage of), executing-image)
+
+  land-image : (s t : State (A .H)) (e : Effect (A .H)) → outcomeImage of (land s t e) ≡ land (stateImage of s) (stateImage of t) (effectImage of e)
+  unfolding land effectImage
+  land-image s t blocked = refl
+  land-image s t keep = refl
+  land-image s t (store k c) = simp (map-set (cellImage of))
+  land-image s t (create c) = simp (map-append (cellImage of))
+  land-image s t (launch j) = simp (map-append (jobImage of))
+
+  turn-image : (s : State (A .H)) (i : ℕ) (t : Turn (A .H)) → outcomeImage of (landTurn s i t) ≡ landTurn (stateImage of s) i (turnImage of t)
+  unfolding landTurn
+  turn-image s i t = simp (land-image, map-set (jobImage of))
+
+  module _ (size : ℕ) (K : Book) where
+    step-image : (s : State (A .H)) (i : ℕ) (j : Job (A .H)) (p : Step)
+        → outcomeImage of (landTurn s i (take A size s j p)) ≡ landTurn (stateImage of s) i (take B size (stateImage of s) (jobImage of j) p)
+    step-image s i j p = turn-image s i (take A size s j p) ∙ ap (landTurn (stateImage of s) i) (take-image size s j p)
+
+    react-image : (s : State (A .H)) (e : Event) → outcomeImage of (react A size K s e) ≡ react B size K (stateImage of s) e
+    unfolding react
+    react-image s (StepOf i) =
+        simp (getElem?-map (jobImage of), onSome-entry, onSome-map (outcomeImage of), step-image)
+    react-image s (WriteBy q k v n) = simp (length-map, given-map (outcomeImage of), land-image, writing-image, of-one)
+    react-image s (RelabelBy q k o) = simp (length-map, given-map (outcomeImage of), land-image, relabelling-image, of-one)
+    react-image s (NewBy q i v n) = simp (length-map, given-map (outcomeImage of), land-image, making-image, of-one)
+    react-image s (ExecBy q k) = simp (length-map, given-map (outcomeImage of), land-image, executing-image, of-one)
+    react-image s (StartBy q b) = simp (given-map (outcomeImage of), land-image, starting-image, of-one)
+
+    after-from : (es : List Event) (s : State (A .H)) → stateImage of (after A size K s es) ≡ after B size K (stateImage of s) es
+    unfolding after
+    after-from [] s = refl
+    after-from (e ∷ es) s =
+        after-from es (react A size K s e .state)
+        ∙ ap (λ (o : Outcome (B .H)). after B size K (o .state) es) (react-image s e)
+
+    answers-from : (es : List Event) (s : State (A .H)) → answers A size K s es ≡ answers B size K (stateImage of s) es
+    unfolding answers
+    answers-from [] s = refl
+    answers-from (e ∷ es) s =
+        ap₂ (λ (a : ℕ) (l : List ℕ). a ∷ l)
+        (ap (λ (o : Outcome (B .H)). o .answer) (react-image s e))
+        (answers-from es (react A size K s e .state) ∙ ap (λ (o : Outcome (B .H)). answers B size K (o .state) es) (react-image s e))
+
+    declared-image : (ds : List Declared) → map (cellImage of) (map (declared A) ds) ≡ map (declared B) ds
+    declared-image [] = refl
+    declared-image (d ∷ ds) = simp (of-one, declared-image ds)
+
+    begin-image : (l : Label) → stateImage of (begin A K l) ≡ begin B K l
+    begin-image l = simp (declared-image, of-one)
+
+    pub images : Images A B of size K
+    images =
+        record {
+          event-image = react-image;
+          begin-image = begin-image;
+          after-image = λ l es. after-from es (begin A K l) ∙ ap (λ (s : State (B .H)). after B size K s es) (begin-image l);
+          answers-image = λ l es. answers-from es (begin A K l) ∙ ap (λ (s : State (B .H)). answers B size K s es) (begin-image l);
+        }
