@@ -1,0 +1,16 @@
+pub mod Trees
+pub mod Entries
+pub mod Numbers
+pub mod Invariant
+pub mod Effects
+pub mod Walks
+pub mod Knowledge
+pub mod LowActs
+pub mod Outcomes
+pub mod HighSteps
+pub mod Steps
+pub mod Runs
+pub mod Begins
+pub mod Bridge
+pub mod Sentences
+pub mod Integrity

@@ -1,0 +1,98 @@
+-- From the invariant of the machine that keeps sources to the sentences, and to the records.
+--     kept        for a parsed book
+-- Assumes nothing.
+use mathlib.Core.Path.{_≡_, refl, sym, ap, _∙_}
+use mathlib.Core.Bool.{true}
+use mathlib.Core.List.{List, [], _∷_, map, List·Memᴰ, List·Memᴰ·head, List·Memᴰ·tail, List·Memᴰ·not-nil}
+use Prim.Native.Nat.{ℕ, max, _<_, _≤_}
+use native.Mathlib.Omega.{arith}
+use borrow.Author.Tests.{leb-true, ltb-true, le-leb}
+use Rattle.labels.specs.declared.Label.{Label}
+use Rattle.labels.specs.declared.Trust.{Trust}
+use Rattle.labels.specs.Labels.{lower, reaches, isAbove, isHigh, isMet}
+use Rattle.book.specs.Book.{Book}
+use Rattle.typing.specs.Shapes as T
+use Rattle.machine.specs.declared.Event.{Event}
+use Rattle.machine.specs.Histories.{History, hands, lists, lowest, source, sources}
+use Rattle.machine.specs.States.{Cell, Job, State}
+use Rattle.machine.specs.Events.{trustOf, launchLabel, begin, after}
+use Rattle.machine.specs.Images.{cellImage, jobImage, stateImage}
+use Rattle.machine.specs.Records.{CellRecord, JobRecord, cellRecord, jobRecord, cellRecords, jobRecords}
+use Rattle.machine.proofs.Sources.{source-law}
+use Rattle.integrity.specs.Integrity.{_isIn_, Sentences, Recorded, Kept}
+use Rattle.integrity.proofs.Trees.{cell, tree-cell}
+use Rattle.integrity.proofs.Entries.{All}
+use Rattle.integrity.proofs.Numbers.{lower-number, normal-high}
+use Rattle.integrity.proofs.Invariant.{shapeOf, treeOf, Good, CellOk, JobOk, Invariant}
+use Rattle.integrity.proofs.Runs.{after-ok}
+use Rattle.integrity.proofs.Begins.{Accepted, begin-ok}
+
+-- a label at most the lowest is at most each
+lowest-all : (n : ℕ) (l : Label) (ls : List Label) (x : Label) → n ≤ lowest l ls .0 → x isIn (l ∷ ls) → n ≤ x .0
+lowest-all n l [] x h (List·Memᴰ·head e) = rw e h
+lowest-all n l [] x h (List·Memᴰ·tail m) = absurd (List·Memᴰ·not-nil m)
+lowest-all n l (m ∷ ms) x h (List·Memᴰ·head e) = let y = lower-number l (lowest m ms) in rw e (omega arith)
+lowest-all n l (m ∷ ms) x h (List·Memᴰ·tail i) = let y = lower-number l (lowest m ms) in lowest-all n m ms x (omega arith) i
+
+map-all : {A B : Type 0} (f : A → B) (P : B → Type 0) (l : List A) (a : A) → All P (map f l) → a isIn l → P (f a)
+map-all f P [] a h m = absurd (List·Memᴰ·not-nil m)
+map-all f P (x ∷ xs) a h (List·Memᴰ·head e) = rw e (h .0)
+map-all f P (x ∷ xs) a h (List·Memᴰ·tail m) = map-all f P xs a (h .1) m
+
+-- an entry of a mapped list is the image of one
+map-from : {A B : Type 0} (f : A → B) (P : B → Type 0) → (l : List A) → ((a : A) → a isIn l → P (f a)) → (b : B) → b isIn map f l → P b
+map-from f P [] g b m = absurd (List·Memᴰ·not-nil m)
+map-from f P (x ∷ xs) g b (List·Memᴰ·head e) = rw e (g x (List·Memᴰ·head refl))
+map-from f P (x ∷ xs) g b (List·Memᴰ·tail m) = map-from f P xs (λ a i. g a (List·Memᴰ·tail i)) b m
+
+module _ (K : Book) (a : Accepted K) (size : ℕ) (l : Label) (p : reaches (launchLabel K) l ≡ true) (es : List Event) where
+  abbrev end : State History
+  end = after lists size K (begin lists K l) es
+
+  invariant : Invariant K (stateImage source end)
+  invariant =
+      rw (source-law size K .after-image l es)
+      (after-ok K size (a .sound) (a .blocks) es (begin sources K l) (begin-ok K a l (leb-true _ _ p)))
+
+  good : (c : Cell History) → c isIn end .cells → (h : isHigh (trustOf K (c .shape)) (K .c) ≡ true)
+      → Good K (stateImage source end .cells) (cellImage source c) (treeOf K (T.contentOf (K .c) (shapeOf K) (c .shape))) (trustOf K (c .shape) .0)
+  good c m h =
+      let n : T.trustOf (K .c) (shapeOf K) (c .shape) .0 ≡ trustOf K (c .shape) .0 = ap (λ (t : Trust). t .0) (normal-high (K .c) (trustOf K (c .shape)) h) in
+      map-all (cellImage source) (CellOk K _) (end .cells) c (invariant .cells) m _ _
+      (tree-cell (K .c) (shapeOf K) (a .sound) (c .shape) (a .cellular (c .shape) (ltb-true _ _ h)) ∙ ap (cell (treeOf K (T.contentOf (K .c) (shapeOf K) (c .shape)))) n)
+
+  label-kept : (c : Cell History) → c isIn end .cells → isHigh (trustOf K (c .shape)) (K .c) ≡ true → trustOf K (c .shape) .0 ≤ c .label .0
+  label-kept c m h = let g = good c m h .label in let x : K .c .0 < trustOf K (c .shape) .0 = ltb-true _ _ h in omega arith
+
+  source-kept : (c : Cell History) → c isIn end .cells → isHigh (trustOf K (c .shape)) (K .c) ≡ true
+      → trustOf K (c .shape) .0 ≤ source (c .content .history) .0
+  source-kept c m h = let g = good c m h .source in let x : K .c .0 < trustOf K (c .shape) .0 = ltb-true _ _ h in omega arith
+
+  job-kept : (j : Job History) → j isIn end .jobs → isAbove (j .label) (K .c) ≡ true → j .label .0 ≤ source (j .history) .0
+  job-kept j m h =
+      let g = map-all (jobImage source) (JobOk K _) (end .jobs) j (invariant .jobs) m .matches .source in
+      let x : K .c .0 < j .label .0 = ltb-true _ _ h in
+      omega arith
+
+  pub kept : Kept K end
+  kept =
+      record {
+        sentences =
+            record {
+              values = λ c m h x i. le-leb _ _ (lowest-all _ _ _ x (source-kept c m h) i);
+              labels = λ c m h. le-leb _ _ (label-kept c m h);
+              jobs = λ j m h x i. le-leb _ _ (lowest-all _ _ _ x (job-kept j m h) i);
+            };
+        recorded =
+            record {
+              labels =
+                  map-from (cellRecord K) (λ r. isHigh (r .trust) (K .c) ≡ true → isMet (r .trust) (r .label) ≡ true) (end .cells)
+                  (λ c m h. le-leb _ _ (label-kept c m h));
+              sources =
+                  map-from (cellRecord K) (λ r. isHigh (r .trust) (K .c) ≡ true → isMet (r .trust) (r .value .source) ≡ true) (end .cells)
+                  (λ c m h. le-leb _ _ (source-kept c m h));
+              jobs =
+                  map-from jobRecord (λ r. isAbove (r .label) (K .c) ≡ true → reaches (r .source) (r .label) ≡ true) (end .jobs)
+                  (λ j m h. le-leb _ _ (job-kept j m h));
+            };
+      }

@@ -1,0 +1,74 @@
+-- Each step of a job: what the rule says of it holds of what the machine does.
+--     low-step        at P at or below C
+--     step-ok         at every P
+-- Assumes nothing.
+use mathlib.Core.Path.{_≡_, refl}
+use mathlib.Core.Bool.{Bool, true, false, not}
+use Prim.Native.Nat.{ℕ, max, _<_, _≤_}
+use native.Mathlib.Omega.{arith}
+use lib.Dec.{ltb}
+use borrow.Author.Tests.{not-true, leb-true, leb-false, ltb-false}
+use Rattle.labels.specs.declared.Label.{Label}
+use Rattle.book.specs.declared.Step.{Step}
+use Rattle.book.specs.declared.Step.the-variants.{Put, Name, Code, Add, New, Read, Write, Relabel, Lower, Start, Exec}
+use Rattle.book.specs.Book.{Book}
+use Rattle.typing.specs.declared.State as T
+use Rattle.typing.specs.Shapes.{viewOf, highTrust, trustOf}
+use Rattle.typing.specs.Rules.{passes, isLow, lowStep, highStep, step}
+use Rattle.typing.specs.Asked.{Sound}
+use Rattle.machine.specs.Histories.{sources}
+use Rattle.machine.specs.States.{Job, State}
+use Rattle.machine.specs.Acts.{Effect, keep, making, writing, relabelling, executing}
+use Rattle.machine.specs.Steps.{register, through, gets, adding, reading, take}
+use Rattle.integrity.proofs.Invariant.{shapeOf, Match, Invariant}
+use Rattle.integrity.proofs.Effects.{EffectOk, keep-ok}
+use Rattle.integrity.proofs.Walks.{StepOk, need-ok, either-ok, entry-ok, plain-ok, cell-ok}
+use Rattle.integrity.proofs.LowActs.{BlocksPass, low-writing, low-relabelling, low-making, low-starting, low-executing}
+use Rattle.integrity.proofs.Outcomes.{low-ok, moves-ok}
+use Rattle.integrity.proofs.HighSteps.{put-ok, name-ok, code-ok, add-ok, new-ok, read-ok, lower-ok, write-ok, relabel-ok, start-ok, exec-ok}
+
+module _ (K : Book) (size : ℕ) (s : State Label) (v : Invariant K s) (ok : Sound (shapeOf K)) (pass : BlocksPass K) (j : Job Label) (t : T.State)
+    (m : Match K (s .cells) t j) where
+  -- the job is at or below C too
+  low-label : t .p .0 ≤ K .c .0 → j .label .0 ≤ K .c .0
+  low-label lo = let h = m .label in omega arith
+
+  low-trust : (i : ℕ) → not (highTrust (K .c) (shapeOf K) i) ≡ true → trustOf (K .c) (shapeOf K) i .0 ≤ K .c .0
+  low-trust i e = ltb-false _ _ (not-true _ e)
+
+  -- an act through a register
+  through-ok : (w : ℕ) (act : ℕ → Effect Label) → ((k : ℕ) → EffectOk K (s .cells) (act k)) → StepOk K (s .cells) j (passes t) (through sources j w act)
+  through-ok w act h = cell-ok K (λ k ek. moves-ok K s j t m (act k) (h k))
+
+  low-step : t .p .0 ≤ K .c .0 → (p : Step) → StepOk K (s .cells) j (lowStep (K .c) (shapeOf K) t p) (take sources size s j p)
+  unfolding lowStep take adding reading
+  low-step lo (Put r n) = low-ok K s j t m r _ _ keep keep-ok
+  low-step lo (Name r k) = low-ok K s j t m r _ _ keep keep-ok
+  low-step lo (Code r b) = low-ok K s j t m r _ _ keep keep-ok
+  low-step lo (Add r a b) = plain-ok K (λ x ex. plain-ok K (λ y ey. low-ok K s j t m r _ _ keep keep-ok))
+  low-step lo (New r i a) =
+      need-ok K (λ e. low-ok K s j t m r _ _ _ (low-making K size s v (j .label) (j .history) (low-label lo) i (register sources j a) (low-trust i e)))
+  low-step lo (Read r w) = cell-ok K (λ k ek. entry-ok K (λ c ec. low-ok K s j t m r _ _ keep keep-ok))
+  low-step lo (Write w a) = through-ok w _ (λ k. low-writing K size s v (j .label) (j .history) (low-label lo) k (register sources j a))
+  low-step lo (Relabel w o) = through-ok w _ (λ k. low-relabelling K size s v (j .label) (j .history) (low-label lo) k o)
+  low-step lo (Lower q) = lower-ok K size s v ok pass j t m q
+  low-step lo (Start b) = moves-ok K s j t m _ (low-starting K size s v (j .label) (j .history) (low-label lo) pass b)
+  low-step lo (Exec w) = through-ok w _ (λ k. low-executing K size s v (j .label) (j .history) (low-label lo) pass k)
+
+  high-step : K .c .0 < t .p .0 → (p : Step) → StepOk K (s .cells) j (highStep (viewOf K) t p) (take sources size s j p)
+  unfolding highStep take viewOf
+  high-step hi (Put r n) = put-ok K size s v ok pass j t m r n
+  high-step hi (Name r k) = name-ok K size s v ok pass j t m r k
+  high-step hi (Code r b) = code-ok K size s v ok pass j t m r b
+  high-step hi (Add r a b) = add-ok K size s v ok pass j t m r a b
+  high-step hi (New r i a) = new-ok K size s v ok pass j t m r i a hi
+  high-step hi (Read r w) = read-ok K size s v ok pass j t m r w
+  high-step hi (Write w a) = write-ok K size s v ok pass j t m w a hi
+  high-step hi (Relabel w o) = relabel-ok K size s v ok pass j t m w o hi
+  high-step hi (Lower q) = lower-ok K size s v ok pass j t m q
+  high-step hi (Start b) = start-ok K size s v ok pass j t m b
+  high-step hi (Exec w) = exec-ok K size s v ok pass j t m w hi
+
+  pub step-ok : (p : Step) → StepOk K (s .cells) j (step (viewOf K) t p) (take sources size s j p)
+  unfolding step viewOf
+  step-ok p = either-ok K (isLow (K .c) (t .p)) (λ e. low-step (leb-true _ _ e) p) (λ e. high-step (leb-false _ _ e) p)
