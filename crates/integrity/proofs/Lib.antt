@@ -14,3 +14,5 @@ pub mod Begins
 pub mod Bridge
 pub mod Sentences
 pub mod Integrity
+pub mod Tested
+pub mod Weakened

@@ -40,12 +40,16 @@ pub record Kept (K : Book) (s : State History) : Type 0 where
   pub sentences : Sentences K s
   pub recorded : Recorded (K .c) (cellRecords K s) (jobRecords s)
 
--- "A book is accepted when none of refusals 1 to 8 holds of it." "A run begins fresh". "All this is a single claim about the list of
--- events". It holds for every launch label up to block 0's bound, and for tables of every size.
+-- Of every run: "A book is accepted when none of refusals 1 to 8 holds of it." "Events are 80 to 85, whatever they are answered". For
+-- tables of every size, and every launch label up to block 0's bound.
+abbrev pub OfEveryRun : (Book → ℕ → Label → List Event → Type 0) → Type 0
+OfEveryRun P = (bytes : List ℕ) (shapes cells blocks steps : ℕ) → verdict bytes ≡ Accepted shapes cells blocks steps
+    → (size : ℕ) (launch : Label) → reaches (launchLabel (parse bytes)) launch ≡ true → (events : List Event)
+    → P (parse bytes) size launch events
+
+-- The theorem. "A run begins fresh". "All this is a single claim about the list of events, not one for each kind of event."
 abbrev pub Integrity : Type 0
-Integrity = (bytes : List ℕ) (shapes cells blocks steps : ℕ) → verdict bytes ≡ Accepted shapes cells blocks steps
-    → (size : ℕ) (launch : Label) → reaches (launchLabel (parse bytes)) launch ≡ true
-    → (events : List Event) → Kept (parse bytes) (after lists size (parse bytes) (begin lists (parse bytes) launch) events)
+Integrity = OfEveryRun (λ K size launch events. Kept K (after lists size K (begin lists K launch) events))
 
 -- the states that a list of events passes through, from this state on: before the first, and after each
 abbrev pub passed : ℕ → Book → State History → List Event → List (State History)
@@ -54,7 +58,4 @@ passed size K s (e ∷ es) = s ∷ passed size K (react lists size K s e .state)
 
 -- "The empty list counts, and the beginning of a list is a list, so the three sentences hold after every event."
 abbrev pub Throughout : Type 0
-Throughout = (bytes : List ℕ) (shapes cells blocks steps : ℕ) → verdict bytes ≡ Accepted shapes cells blocks steps
-    → (size : ℕ) (launch : Label) → reaches (launchLabel (parse bytes)) launch ≡ true
-    → (events : List Event) (s : State History) → s isIn passed size (parse bytes) (begin lists (parse bytes) launch) events
-    → Kept (parse bytes) s
+Throughout = OfEveryRun (λ K size launch events. (s : State History) → s isIn passed size K (begin lists K launch) events → Kept K s)
