@@ -1,6 +1,6 @@
 -- The fresh state of an accepted book keeps the invariant.
---     Accepted        what acceptance says of the parsed book
---     begin-ok        for every launch label up to the bound
+--     Accepted              what acceptance says of the parsed book
+--     fresh-state-ok        for every launch label up to the bound
 -- Assumes nothing.
 use mathlib.Core.Path.{_≡_, refl, sym, ap, _∙_}
 use mathlib.Core.Bool.{Bool, true, false}
@@ -25,7 +25,7 @@ use Rattle.typing.specs.Shapes.{viewOf, onSome, isCell, contentOf, trustOf, hig
 use Rattle.typing.specs.Asked.{Sound}
 use Rattle.machine.specs.Histories.{sources}
 use Rattle.machine.specs.States.{Cell, State}
-use Rattle.machine.specs.Events.{blockOf, launchLabel, declared, begin}
+use Rattle.machine.specs.Events.{blockOf, launchLabel, declared, freshState}
 use Rattle.integrity.proofs.Trees.{Tree, cell, tree-cell, tree-trust}
 use Rattle.integrity.proofs.Entries.{All}
 use Rattle.integrity.proofs.Numbers.{facts, normal-above}
@@ -99,8 +99,8 @@ module _ (K : Book) (a : Accepted K) where
   declared-ok [] h = tt
   declared-ok (d ∷ ds) h = (λ t S e. declared-good d (h .0) (highTrust (K .c) (shapeOf K) (d .shape)) refl t S e, declared-ok ds (h .1))
 
-  pub begin-ok : (l : Label) → l .0 ≤ launchLabel K .0 → Invariant K (begin sources K l)
-  begin-ok l p =
+  pub fresh-state-ok : (l : Label) → l .0 ≤ launchLabel K .0 → Invariant K (freshState sources K l)
+  fresh-state-ok l p =
       record {
         declared = first-tree (K .cells);
         cells = declared-ok (K .cells) (a .cells);

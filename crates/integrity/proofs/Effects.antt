@@ -1,7 +1,7 @@
 -- An effect that keeps the invariant.
 --     store-tree, create-tree, created      the shapes of the cells after a store, after a new cell
 --     After, EffectOk, grows                the cells after an effect, an effect that is as it must be
---     land-ok                               it keeps the invariant
+--     landed-ok, landed-outside             it keeps the invariant
 -- Assumes nothing.
 use mathlib.Core.Path.{_≡_, refl, _∙_}
 use mathlib.Core.Option.{Option, none, some}
@@ -12,7 +12,7 @@ use Rattle.labels.specs.declared.Label.{Label}
 use Rattle.book.specs.Book.{Book}
 use Rattle.machine.specs.States.{Cell, Job, State}
 use Rattle.machine.specs.Acts.{Effect, blocked, keep, store, create, launch}
-use Rattle.machine.specs.Events.{land}
+use Rattle.machine.specs.Events.{landed}
 use Rattle.integrity.proofs.Trees.{Tree}
 use Rattle.integrity.proofs.Entries.{All, all-set, all-push, all-map}
 use Rattle.integrity.proofs.Invariant.{Cells, treeOf, treeAt, CellOk, JobOk, Invariant, Grows, cell-kept, job-kept}
@@ -57,27 +57,27 @@ module _ (K : Book) where
   grows cs (launch j) h = record { kept = λ k t q. q }
 
   -- js are the jobs with the actor's step done; they are already held to the cells after the effect
-  pub land-ok : (s : State Label) (js : List (Job Label)) (e : Effect Label) → Invariant K s → EffectOk (s .cells) e
-      → All (JobOk K (After (s .cells) e)) js → Invariant K (land s (record { cells = s .cells; jobs = js }) e .state)
-  unfolding land
-  land-ok s js blocked v h a = v
-  land-ok s js keep v h a = record { declared = v .declared; cells = v .cells; jobs = a }
-  land-ok s js (store k c) v (store-ok h g) a =
+  pub landed-ok : (s : State Label) (js : List (Job Label)) (e : Effect Label) → Invariant K s → EffectOk (s .cells) e
+      → All (JobOk K (After (s .cells) e)) js → Invariant K (landed s (record { cells = s .cells; jobs = js }) e .state)
+  unfolding landed
+  landed-ok s js blocked v h a = v
+  landed-ok s js keep v h a = record { declared = v .declared; cells = v .cells; jobs = a }
+  landed-ok s js (store k c) v (store-ok h g) a =
       let x = grows (s .cells) (store k c) (store-ok h g) in
       record {
         declared = λ i d q. x .kept i _ (v .declared i d q);
         cells = all-set (CellOk K (set (s .cells) k c)) (s .cells) k c (all-map (cell-kept K x) (s .cells) (v .cells)) (cell-kept K x c h);
         jobs = a;
       }
-  land-ok s js (create c) v (create-ok h) a =
+  landed-ok s js (create c) v (create-ok h) a =
       let x = grows (s .cells) (create c) (create-ok h) in
       record {
         declared = λ i d q. x .kept i _ (v .declared i d q);
         cells = all-push (CellOk K (s .cells ++ (c ∷ []))) (s .cells) c (all-map (cell-kept K x) (s .cells) (v .cells)) (cell-kept K x c h);
         jobs = a;
       }
-  land-ok s js (launch j) v (launch-ok h) a = record { declared = v .declared; cells = v .cells; jobs = all-push (JobOk K (s .cells)) js j a h }
+  landed-ok s js (launch j) v (launch-ok h) a = record { declared = v .declared; cells = v .cells; jobs = all-push (JobOk K (s .cells)) js j a h }
 
   -- an outsider's effect
-  pub land-outside : (s : State Label) (e : Effect Label) → Invariant K s → EffectOk (s .cells) e → Invariant K (land s s e .state)
-  land-outside s e v h = land-ok s (s .jobs) e v h (all-map (job-kept K (grows (s .cells) e h)) (s .jobs) (v .jobs))
+  pub landed-outside : (s : State Label) (e : Effect Label) → Invariant K s → EffectOk (s .cells) e → Invariant K (landed s s e .state)
+  landed-outside s e v h = landed-ok s (s .jobs) e v h (all-map (job-kept K (grows (s .cells) e h)) (s .jobs) (v .jobs))

@@ -1,5 +1,5 @@
 -- Each event keeps the invariant, and so does a list of events.
---     react-ok, after-ok
+--     outcome-ok, state-after-ok
 -- Assumes nothing.
 use mathlib.Core.Path.{_≡_, refl}
 use mathlib.Core.Bool.{Bool, true, false, not}
@@ -24,12 +24,12 @@ use Rattle.machine.specs.Control.{given}
 use Rattle.machine.specs.Histories.{sources}
 use Rattle.machine.specs.States.{Traced, Job, State}
 use Rattle.machine.specs.Acts.{Effect, blocked}
-use Rattle.machine.specs.Steps.{Turn, take}
-use Rattle.machine.specs.Events.{Outcome, blockOf, isLowCellShape, brought, land, landTurn, react, after}
+use Rattle.machine.specs.Steps.{Turn, turnOf}
+use Rattle.machine.specs.Events.{Outcome, blockOf, isLowCellShape, brought, landed, turnLanded, outcomeOf, stateAfter}
 use Rattle.integrity.proofs.Entries.{all-set, all-at, all-map, drop-at}
 use Rattle.integrity.proofs.Numbers.{low-normal}
 use Rattle.integrity.proofs.Invariant.{passesAll, shapeOf, JobOk, Invariant, job-kept}
-use Rattle.integrity.proofs.Effects.{After, EffectOk, grows, land-ok, land-outside}
+use Rattle.integrity.proofs.Effects.{After, EffectOk, grows, landed-ok, landed-outside}
 use Rattle.integrity.proofs.Walks.{StepOk, broken, waits, fine}
 use Rattle.integrity.proofs.LowActs.{BlocksPass, low-writing, low-relabelling, low-making, low-starting, low-executing}
 use Rattle.integrity.proofs.Steps.{step-ok}
@@ -55,43 +55,43 @@ passes-breaks K (p ∷ ps) = refl
 
 -- a job's turn, in the tables
 turn-ok : (K : Book) (s : State Label) → Invariant K s → (i : ℕ) (j : Job Label) {x : Typed} {o : Turn Label} → StepOk K (s .cells) j x o
-    → passesAll (viewOf K) (drop (suc (j .position)) (blockOf K (j .block) .steps)) x ≡ true → Invariant K (landTurn s i o .state)
-unfolding landTurn land
+    → passesAll (viewOf K) (drop (suc (j .position)) (blockOf K (j .block) .steps)) x ≡ true → Invariant K (turnLanded s i o .state)
+unfolding turnLanded landed
 turn-ok K s v i j broken q = clash q (passes-breaks K (drop (suc (j .position)) (blockOf K (j .block) .steps)))
 turn-ok K s v i j waits q = v
 turn-ok K s v i j (fine {t} {i = n} {e} h) q =
-    land-ok K s (set (s .jobs) i n) e v (h .effect)
+    landed-ok K s (set (s .jobs) i n) e v (h .effect)
     (all-set (JobOk K (After K (s .cells) e)) (s .jobs) i n (all-map (job-kept K (grows K (s .cells) e (h .effect))) (s .jobs) (v .jobs))
     (record { state = t; matches = h .matches; rest = rw (h .same, h .moved) q }))
 
 module _ (K : Book) (size : ℕ) (ok : Sound (shapeOf K)) (pass : BlocksPass K) where
   step-event : (s : State Label) → Invariant K s → (i : ℕ) (j : Job Label) → getElem? (s .jobs) i ≡ some j
-      → (p : Step) → getElem? (blockOf K (j .block) .steps) (j .position) ≡ some p → Invariant K (landTurn s i (take sources size s j p) .state)
+      → (p : Step) → getElem? (blockOf K (j .block) .steps) (j .position) ≡ some p → Invariant K (turnLanded s i (turnOf sources size s j p) .state)
   step-event s v i j ej p ep =
       let h = all-at (JobOk K (s .cells)) (s .jobs) i j (v .jobs) ej in
       let d = drop-at (blockOf K (j .block) .steps) (j .position) p ep in
       turn-ok K s v i j (step-ok K size s v ok pass j (h .state) (h .matches) p) (rw d at (h .rest))
 
-  react-ok : (s : State Label) → Invariant K s → (e : Event) → Keeps K (react sources size K s e)
-  unfolding react
-  react-ok s v (StepOf i) =
+  outcome-ok : (s : State Label) → Invariant K s → (e : Event) → Keeps K (outcomeOf sources size K s e)
+  unfolding outcomeOf
+  outcome-ok s v (StepOf i) =
       there-ok (record { kept = v }) (λ j ej. there-ok (record { kept = v }) (λ p ep. record { kept = step-event s v i j ej p ep }))
-  react-ok s v (WriteBy q k x n) =
+  outcome-ok s v (WriteBy q k x n) =
       such-ok (record { kept = v })
-      (λ g. record { kept = land-outside K s _ v (low-writing K size s v q q (leb-true _ _ (both-left _ _ g)) k (brought sources size K q x n)) })
-  react-ok s v (RelabelBy q k o) =
-      such-ok (record { kept = v }) (λ g. record { kept = land-outside K s _ v (low-relabelling K size s v q q (leb-true _ _ (both-left _ _ g)) k o) })
-  react-ok s v (NewBy q i x n) =
+      (λ g. record { kept = landed-outside K s _ v (low-writing K size s v q q (leb-true _ _ (both-left _ _ g)) k (brought sources size K q x n)) })
+  outcome-ok s v (RelabelBy q k o) =
+      such-ok (record { kept = v }) (λ g. record { kept = landed-outside K s _ v (low-relabelling K size s v q q (leb-true _ _ (both-left _ _ g)) k o) })
+  outcome-ok s v (NewBy q i x n) =
       such-ok (record { kept = v })
       (λ g.
       let l = low-normal (K .c) _ (not-true _ (both-right _ _ (both-left _ _ (both-right _ _ g)))) in
-      record { kept = land-outside K s _ v (low-making K size s v q q (leb-true _ _ (both-left _ _ g)) i (brought sources size K q x n) l) })
-  react-ok s v (ExecBy q k) =
-      such-ok (record { kept = v }) (λ g. record { kept = land-outside K s _ v (low-executing K size s v q q (leb-true _ _ (both-left _ _ g)) pass k) })
-  react-ok s v (StartBy q b) =
-      such-ok (record { kept = v }) (λ g. record { kept = land-outside K s _ v (low-starting K size s v q q (leb-true _ _ (both-left _ _ g)) pass b) })
+      record { kept = landed-outside K s _ v (low-making K size s v q q (leb-true _ _ (both-left _ _ g)) i (brought sources size K q x n) l) })
+  outcome-ok s v (ExecBy q k) =
+      such-ok (record { kept = v }) (λ g. record { kept = landed-outside K s _ v (low-executing K size s v q q (leb-true _ _ (both-left _ _ g)) pass k) })
+  outcome-ok s v (StartBy q b) =
+      such-ok (record { kept = v }) (λ g. record { kept = landed-outside K s _ v (low-starting K size s v q q (leb-true _ _ (both-left _ _ g)) pass b) })
 
-  pub after-ok : (es : List Event) (s : State Label) → Invariant K s → Invariant K (after sources size K s es)
-  unfolding after
-  after-ok [] s v = v
-  after-ok (e ∷ es) s v = after-ok es (react sources size K s e .state) (react-ok s v e .kept)
+  pub state-after-ok : (es : List Event) (s : State Label) → Invariant K s → Invariant K (stateAfter sources size K s es)
+  unfolding stateAfter
+  state-after-ok [] s v = v
+  state-after-ok (e ∷ es) s v = state-after-ok es (outcomeOf sources size K s e .state) (outcome-ok s v e .kept)

@@ -15,7 +15,7 @@ use Rattle.typing.specs.Shapes as T
 use Rattle.machine.specs.declared.Event.{Event}
 use Rattle.machine.specs.Histories.{History, hands, lists, lowest, source, sources}
 use Rattle.machine.specs.States.{Cell, Job, State}
-use Rattle.machine.specs.Events.{trustOf, launchLabel, begin, after}
+use Rattle.machine.specs.Events.{trustOf, launchLabel, freshState, stateAfter}
 use Rattle.machine.specs.Images.{cellImage, jobImage, stateImage}
 use Rattle.machine.specs.Records.{CellRecord, JobRecord, cellRecord, jobRecord, cellRecords, jobRecords}
 use Rattle.machine.proofs.Sources.{source-law}
@@ -24,8 +24,8 @@ use Rattle.integrity.proofs.Trees.{cell, tree-cell}
 use Rattle.integrity.proofs.Entries.{All}
 use Rattle.integrity.proofs.Numbers.{lower-number, normal-high}
 use Rattle.integrity.proofs.Invariant.{shapeOf, treeOf, Good, CellOk, JobOk, Invariant}
-use Rattle.integrity.proofs.Runs.{after-ok}
-use Rattle.integrity.proofs.Begins.{Accepted, begin-ok}
+use Rattle.integrity.proofs.Runs.{state-after-ok}
+use Rattle.integrity.proofs.Begins.{Accepted, fresh-state-ok}
 
 -- a label at most the lowest is at most each
 lowest-all : (n : ℕ) (l : Label) (ls : List Label) (x : Label) → n ≤ lowest l ls .0 → x isIn (l ∷ ls) → n ≤ x .0
@@ -47,12 +47,12 @@ map-from f P (x ∷ xs) g b (List·Memᴰ·tail m) = map-from f P xs (λ a i. g 
 
 module _ (K : Book) (a : Accepted K) (size : ℕ) (l : Label) (p : reaches (launchLabel K) l ≡ true) (es : List Event) where
   abbrev end : State History
-  end = after lists size K (begin lists K l) es
+  end = stateAfter lists size K (freshState lists K l) es
 
   invariant : Invariant K (stateImage source end)
   invariant =
       rw (source-law size K .after-image l es)
-      (after-ok K size (a .sound) (a .blocks) es (begin sources K l) (begin-ok K a l (leb-true _ _ p)))
+      (state-after-ok K size (a .sound) (a .blocks) es (freshState sources K l) (fresh-state-ok K a l (leb-true _ _ p)))
 
   good : (c : Cell History) → c isIn end .cells → (h : isHigh (trustOf K (c .shape)) (K .c) ≡ true)
       → Good K (stateImage source end .cells) (cellImage source c) (treeOf K (T.contentOf (K .c) (shapeOf K) (c .shape))) (trustOf K (c .shape) .0)

@@ -19,7 +19,7 @@ use Rattle.typing.specs.Asked.{Sound}
 use Rattle.machine.specs.Histories.{sources}
 use Rattle.machine.specs.States.{Job, State}
 use Rattle.machine.specs.Acts.{Effect, keep, making, writing, relabelling, executing}
-use Rattle.machine.specs.Steps.{register, through, gets, adding, reading, take}
+use Rattle.machine.specs.Steps.{register, through, gets, adding, reading, turnOf}
 use Rattle.integrity.proofs.Invariant.{shapeOf, Match, Invariant}
 use Rattle.integrity.proofs.Effects.{EffectOk, keep-ok}
 use Rattle.integrity.proofs.Walks.{StepOk, need-ok, either-ok, entry-ok, plain-ok, cell-ok}
@@ -40,8 +40,8 @@ module _ (K : Book) (size : ℕ) (s : State Label) (v : Invariant K s) (ok : Sou
   through-ok : (w : ℕ) (act : ℕ → Effect Label) → ((k : ℕ) → EffectOk K (s .cells) (act k)) → StepOk K (s .cells) j (passes t) (through sources j w act)
   through-ok w act h = cell-ok K (λ k ek. moves-ok K s j t m (act k) (h k))
 
-  low-step : t .p .0 ≤ K .c .0 → (p : Step) → StepOk K (s .cells) j (lowStep (K .c) (shapeOf K) t p) (take sources size s j p)
-  unfolding lowStep take adding reading
+  low-step : t .p .0 ≤ K .c .0 → (p : Step) → StepOk K (s .cells) j (lowStep (K .c) (shapeOf K) t p) (turnOf sources size s j p)
+  unfolding lowStep turnOf adding reading
   low-step lo (Put r n) = low-ok K s j t m r _ _ keep keep-ok
   low-step lo (Name r k) = low-ok K s j t m r _ _ keep keep-ok
   low-step lo (Code r b) = low-ok K s j t m r _ _ keep keep-ok
@@ -55,8 +55,8 @@ module _ (K : Book) (size : ℕ) (s : State Label) (v : Invariant K s) (ok : Sou
   low-step lo (Start b) = moves-ok K s j t m _ (low-starting K size s v (j .label) (j .history) (low-label lo) pass b)
   low-step lo (Exec w) = through-ok w _ (λ k. low-executing K size s v (j .label) (j .history) (low-label lo) pass k)
 
-  high-step : K .c .0 < t .p .0 → (p : Step) → StepOk K (s .cells) j (highStep (viewOf K) t p) (take sources size s j p)
-  unfolding highStep take viewOf
+  high-step : K .c .0 < t .p .0 → (p : Step) → StepOk K (s .cells) j (highStep (viewOf K) t p) (turnOf sources size s j p)
+  unfolding highStep turnOf viewOf
   high-step hi (Put r n) = put-ok K size s v ok pass j t m r n
   high-step hi (Name r k) = name-ok K size s v ok pass j t m r k
   high-step hi (Code r b) = code-ok K size s v ok pass j t m r b
@@ -69,6 +69,6 @@ module _ (K : Book) (size : ℕ) (s : State Label) (v : Invariant K s) (ok : Sou
   high-step hi (Start b) = start-ok K size s v ok pass j t m b
   high-step hi (Exec w) = exec-ok K size s v ok pass j t m w hi
 
-  pub step-ok : (p : Step) → StepOk K (s .cells) j (step (viewOf K) t p) (take sources size s j p)
+  pub step-ok : (p : Step) → StepOk K (s .cells) j (step (viewOf K) t p) (turnOf sources size s j p)
   unfolding step viewOf
   step-ok p = either-ok K (isLow (K .c) (t .p)) (λ e. low-step (leb-true _ _ e) p) (λ e. high-step (leb-false _ _ e) p)

@@ -25,8 +25,8 @@ use Rattle.machine.specs.declared.Event.{Event}
 use Rattle.machine.specs.declared.Event.the-variants.{StepOf, WriteBy, RelabelBy, StartBy}
 use Rattle.machine.specs.Control.{given, onPlain, onCell, onCode}
 use Rattle.machine.specs.Acts.{execLabel, writing, relabelling, making, starting, executing}
-use Rattle.machine.specs.Steps.{sum, adding, reading, lowering, take}
-use Rattle.machine.specs.Events.{land, landTurn, react, after}
+use Rattle.machine.specs.Steps.{sum, adding, reading, lowering, turnOf}
+use Rattle.machine.specs.Events.{landed, turnLanded, outcomeOf, stateAfter}
 use Rattle.integrity.specs.Weakened.{rulesOf, stepBy, walkBy, every, acceptedBy, anyBound, alikeAnyTrust, anyTrust, Needed, NeededOutside, EachNeeded}
 use Rattle.integrity.specs.Weakened.{execUntrusted, writeThroughLow, relabelBelow, newAtBound, lowerStuckLow, readAtP, fittedBy, letIn}
 use Rattle.integrity.proofs.Tested.{cellHolds, jobHolds, sentencesHold, breaks}
@@ -74,7 +74,7 @@ step-by B t (Start b) = refl
 step-by B t (Exec w) = refl
 
 pub each-needed : EachNeeded
-unfolding lower normal capped both either valueOf valueNamed viewOf onSome alikeIn alike knownOf fits knownValue declaredOk need free R.onCell R.onCode isPlainly fresh known R.lowering addable holds lowStep highStep step given onPlain onCell onCode execLabel writing relabelling making starting executing sum adding reading lowering take land landTurn react after stepBy walkBy every acceptedBy anyBound alikeAnyTrust anyTrust cellHolds jobHolds sentencesHold
+unfolding lower normal capped both either valueOf valueNamed viewOf onSome alikeIn alike knownOf fits knownValue declaredOk need free R.onCell R.onCode isPlainly fresh known R.lowering addable holds lowStep highStep step given onPlain onCell onCode execLabel writing relabelling making starting executing sum adding reading lowering turnOf landed turnLanded outcomeOf stateAfter stepBy walkBy every acceptedBy anyBound alikeAnyTrust anyTrust cellHolds jobHolds sentencesHold
 each-needed =
     record {
       -- An outsider writes block 1's code into cell 0. Job 0, at 12, copies it into cell 1, of low trust and label 12, and runs that: a job

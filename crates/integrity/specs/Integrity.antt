@@ -12,7 +12,7 @@ use Rattle.typing.specs.Verdict.{verdict}
 use Rattle.machine.specs.declared.Event.{Event}
 use Rattle.machine.specs.Histories.{History, hands, lists}
 use Rattle.machine.specs.States.{Cell, Job, State}
-use Rattle.machine.specs.Events.{trustOf, launchLabel, react, begin, after}
+use Rattle.machine.specs.Events.{trustOf, launchLabel, outcomeOf, freshState, stateAfter}
 use Rattle.machine.specs.Records.{CellRecord, JobRecord, cellRecords, jobRecords}
 
 -- "All cells and jobs in use are meant, finished jobs too." "A hand is a label that stands in a history".
@@ -49,13 +49,13 @@ OfEveryRun P = (bytes : List ℕ) (shapes cells blocks steps : ℕ) → verdict 
 
 -- The theorem. "A run begins fresh". "All this is a single claim about the list of events, not one for each kind of event."
 abbrev pub Integrity : Type 0
-Integrity = OfEveryRun (λ K size launch events. Kept K (after lists size K (begin lists K launch) events))
+Integrity = OfEveryRun (λ K size launch events. Kept K (stateAfter lists size K (freshState lists K launch) events))
 
 -- the states that a list of events passes through, from this state on: before the first, and after each
 abbrev pub passed : ℕ → Book → State History → List Event → List (State History)
 passed size K s [] = s ∷ []
-passed size K s (e ∷ es) = s ∷ passed size K (react lists size K s e .state) es
+passed size K s (e ∷ es) = s ∷ passed size K (outcomeOf lists size K s e .state) es
 
 -- "The empty list counts, and the beginning of a list is a list, so the three sentences hold after every event."
 abbrev pub Throughout : Type 0
-Throughout = OfEveryRun (λ K size launch events. (s : State History) → s isIn passed size K (begin lists K launch) events → Kept K s)
+Throughout = OfEveryRun (λ K size launch events. (s : State History) → s isIn passed size K (freshState lists K launch) events → Kept K s)

@@ -23,7 +23,7 @@ use Rattle.typing.specs.Shapes.{View, viewOf, isCode, isCell, isPlain, boundOf,
 use Rattle.typing.specs.Rules.{Typed, passes, stuck, breaks, need, free, onCell, onCode, register, gives, givesLow, fresh, isLow, known, lowered, lowering, holds, lowStep, making, reading, writing, relabelling, executing, step}
 use Rattle.machine.specs.declared.Event.{Event}
 use Rattle.machine.specs.Histories.{lists}
-use Rattle.machine.specs.Events.{tableSize, launchLabel, begin, after}
+use Rattle.machine.specs.Events.{tableSize, launchLabel, freshState, stateAfter}
 use Rattle.integrity.specs.Integrity.{Sentences}
 
 -- the rules that are weakened below: a declared cell, and six kinds of step at P above C; lower is so at every P
@@ -90,7 +90,7 @@ pub record Needed (R : View → Rules) : Type 0 where
   pub events : List Event
   pub accepted : acceptedBy R book ≡ true
   pub refused : acceptedBy rulesOf book ≡ false
-  pub broken : Sentences book (after lists tableSize book (begin lists book (launchLabel book)) events) → ⊥
+  pub broken : Sentences book (stateAfter lists tableSize book (freshState lists book (launchLabel book)) events) → ⊥
 
 -- exec typed without trust at least P: no "and S at least P"
 abbrev pub execUntrusted : View → Rules
@@ -228,7 +228,7 @@ pub record NeededOutside (machine : Book → Book) : Type 0 where
   pub book : Book
   pub events : List Event
   pub accepted : acceptedBy rulesOf book ≡ true
-  pub broken : Sentences book (after lists tableSize (machine book) (begin lists book (launchLabel book)) events) → ⊥
+  pub broken : Sentences book (stateAfter lists tableSize (machine book) (freshState lists book (launchLabel book)) events) → ⊥
 
 pub record EachNeeded : Type 1 where
   pub exec-trust : Needed execUntrusted

@@ -16,8 +16,8 @@ use Rattle.machine.specs.declared.Event.the-variants.{StepOf, WriteBy, R
 use Rattle.machine.specs.Histories.{Histories}
 use Rattle.machine.specs.States.{Traced, Cell, Job, State}
 use Rattle.machine.specs.Acts.{Effect, blocked, keep, store, create, launch, zeroWith, writing, relabelling, making, starting, executing}
-use Rattle.machine.specs.Steps.{Turn, register, adding, reading, lowering, take}
-use Rattle.machine.specs.Events.{Outcome, land, landTurn, react, declared, begin, after, answers}
+use Rattle.machine.specs.Steps.{Turn, register, adding, reading, lowering, turnOf}
+use Rattle.machine.specs.Events.{Outcome, landed, turnLanded, outcomeOf, declared, freshState, stateAfter, answers}
 use Rattle.machine.specs.Images.{Image, tracedImage, cellImage, jobImage, stateImage, outcomeImage, Images}
 use Rattle.machine.proofs.Maps.{map-set, map-append, getElem?-map, given-map, onSome-map, onPlain-map, onCell-map, onCode-map, onSome-entry}
 
@@ -63,75 +63,75 @@ module _ (A B : Histories) (i : Image A B) where
 
   -- a step
   module _ (size : ℕ) (s : State (A .H)) (j : Job (A .H)) where
-    take-image : (p : Step) → turnImage of (take A size s j p) ≡ take B size (stateImage of s) (jobImage of j) p
-    unfolding take adding reading lowering effectImage
-    take-image (Put r n) = simp (map-set (tracedImage of))
-    take-image (Name r k) = simp (map-set (tracedImage of))
-    take-image (Code r b) = simp (map-set (tracedImage of))
-    take-image (Add r a b) = simp (register-image j, onPlain-map (turnImage of), map-set (tracedImage of), of-join)
-    take-image (New r k a) = simp (length-map, register-image j, map-set (tracedImage of), making-image)
-    take-image (Read r w) =
+    turn-image : (p : Step) → turnImage of (turnOf A size s j p) ≡ turnOf B size (stateImage of s) (jobImage of j) p
+    unfolding turnOf adding reading lowering effectImage
+    turn-image (Put r n) = simp (map-set (tracedImage of))
+    turn-image (Name r k) = simp (map-set (tracedImage of))
+    turn-image (Code r b) = simp (map-set (tracedImage of))
+    turn-image (Add r a b) = simp (register-image j, onPlain-map (turnImage of), map-set (tracedImage of), of-join)
+    turn-image (New r k a) = simp (length-map, register-image j, map-set (tracedImage of), making-image)
+    turn-image (Read r w) =
         simp (register-image j, onCell-map (turnImage of), getElem?-map (cellImage of), onSome-entry, onSome-map (turnImage of), map-set (tracedImage of), of-join)
-    take-image (Write w a) = simp (register-image j, onCell-map (turnImage of), writing-image)
-    take-image (Relabel w o) = simp (register-image j, onCell-map (turnImage of), relabelling-image)
-    take-image (Lower q) = simp (given-map (turnImage of), of-join, of-one)
-    take-image (Start b) = simp starting-image
-    take-image (Exec w) = simp (register-image j, onCell-map (turnImage of), executing-image)
+    turn-image (Write w a) = simp (register-image j, onCell-map (turnImage of), writing-image)
+    turn-image (Relabel w o) = simp (register-image j, onCell-map (turnImage of), relabelling-image)
+    turn-image (Lower q) = simp (given-map (turnImage of), of-join, of-one)
+    turn-image (Start b) = simp starting-image
+    turn-image (Exec w) = simp (register-image j, onCell-map (turnImage of), executing-image)
 
-  land-image : (s t : State (A .H)) (e : Effect (A .H)) → outcomeImage of (land s t e) ≡ land (stateImage of s) (stateImage of t) (effectImage of e)
-  unfolding land effectImage
-  land-image s t blocked = refl
-  land-image s t keep = refl
-  land-image s t (store k c) = simp (map-set (cellImage of))
-  land-image s t (create c) = simp (map-append (cellImage of))
-  land-image s t (launch j) = simp (map-append (jobImage of))
+  landed-image : (s t : State (A .H)) (e : Effect (A .H)) → outcomeImage of (landed s t e) ≡ landed (stateImage of s) (stateImage of t) (effectImage of e)
+  unfolding landed effectImage
+  landed-image s t blocked = refl
+  landed-image s t keep = refl
+  landed-image s t (store k c) = simp (map-set (cellImage of))
+  landed-image s t (create c) = simp (map-append (cellImage of))
+  landed-image s t (launch j) = simp (map-append (jobImage of))
 
-  turn-image : (s : State (A .H)) (i : ℕ) (t : Turn (A .H)) → outcomeImage of (landTurn s i t) ≡ landTurn (stateImage of s) i (turnImage of t)
-  unfolding landTurn
-  turn-image s i t = simp (land-image, map-set (jobImage of))
+  landed-turn-image : (s : State (A .H)) (i : ℕ) (t : Turn (A .H)) → outcomeImage of (turnLanded s i t) ≡ turnLanded (stateImage of s) i (turnImage of t)
+  unfolding turnLanded
+  landed-turn-image s i t = simp (landed-image, map-set (jobImage of))
 
   module _ (size : ℕ) (K : Book) where
     step-image : (s : State (A .H)) (i : ℕ) (j : Job (A .H)) (p : Step)
-        → outcomeImage of (landTurn s i (take A size s j p)) ≡ landTurn (stateImage of s) i (take B size (stateImage of s) (jobImage of j) p)
-    step-image s i j p = turn-image s i (take A size s j p) ∙ ap (landTurn (stateImage of s) i) (take-image size s j p)
+        → outcomeImage of (turnLanded s i (turnOf A size s j p)) ≡ turnLanded (stateImage of s) i (turnOf B size (stateImage of s) (jobImage of j) p)
+    step-image s i j p = landed-turn-image s i (turnOf A size s j p) ∙ ap (turnLanded (stateImage of s) i) (turn-image size s j p)
 
-    react-image : (s : State (A .H)) (e : Event) → outcomeImage of (react A size K s e) ≡ react B size K (stateImage of s) e
-    unfolding react
-    react-image s (StepOf i) =
+    outcome-image : (s : State (A .H)) (e : Event) → outcomeImage of (outcomeOf A size K s e) ≡ outcomeOf B size K (stateImage of s) e
+    unfolding outcomeOf
+    outcome-image s (StepOf i) =
         simp (getElem?-map (jobImage of), onSome-entry, onSome-map (outcomeImage of), step-image)
-    react-image s (WriteBy q k v n) = simp (length-map, given-map (outcomeImage of), land-image, writing-image, of-one)
-    react-image s (RelabelBy q k o) = simp (length-map, given-map (outcomeImage of), land-image, relabelling-image, of-one)
-    react-image s (NewBy q i v n) = simp (length-map, given-map (outcomeImage of), land-image, making-image, of-one)
-    react-image s (ExecBy q k) = simp (length-map, given-map (outcomeImage of), land-image, executing-image, of-one)
-    react-image s (StartBy q b) = simp (given-map (outcomeImage of), land-image, starting-image, of-one)
+    outcome-image s (WriteBy q k v n) = simp (length-map, given-map (outcomeImage of), landed-image, writing-image, of-one)
+    outcome-image s (RelabelBy q k o) = simp (length-map, given-map (outcomeImage of), landed-image, relabelling-image, of-one)
+    outcome-image s (NewBy q i v n) = simp (length-map, given-map (outcomeImage of), landed-image, making-image, of-one)
+    outcome-image s (ExecBy q k) = simp (length-map, given-map (outcomeImage of), landed-image, executing-image, of-one)
+    outcome-image s (StartBy q b) = simp (given-map (outcomeImage of), landed-image, starting-image, of-one)
 
-    after-from : (es : List Event) (s : State (A .H)) → stateImage of (after A size K s es) ≡ after B size K (stateImage of s) es
-    unfolding after
+    after-from : (es : List Event) (s : State (A .H)) → stateImage of (stateAfter A size K s es) ≡ stateAfter B size K (stateImage of s) es
+    unfolding stateAfter
     after-from [] s = refl
     after-from (e ∷ es) s =
-        after-from es (react A size K s e .state)
-        ∙ ap (λ (o : Outcome (B .H)). after B size K (o .state) es) (react-image s e)
+        after-from es (outcomeOf A size K s e .state)
+        ∙ ap (λ (o : Outcome (B .H)). stateAfter B size K (o .state) es) (outcome-image s e)
 
     answers-from : (es : List Event) (s : State (A .H)) → answers A size K s es ≡ answers B size K (stateImage of s) es
     unfolding answers
     answers-from [] s = refl
     answers-from (e ∷ es) s =
         ap₂ (λ (a : ℕ) (l : List ℕ). a ∷ l)
-        (ap (λ (o : Outcome (B .H)). o .answer) (react-image s e))
-        (answers-from es (react A size K s e .state) ∙ ap (λ (o : Outcome (B .H)). answers B size K (o .state) es) (react-image s e))
+        (ap (λ (o : Outcome (B .H)). o .answer) (outcome-image s e))
+        (answers-from es (outcomeOf A size K s e .state) ∙ ap (λ (o : Outcome (B .H)). answers B size K (o .state) es) (outcome-image s e))
 
     declared-image : (ds : List Declared) → map (cellImage of) (map (declared A) ds) ≡ map (declared B) ds
     declared-image [] = refl
     declared-image (d ∷ ds) = simp (of-one, declared-image ds)
 
-    begin-image : (l : Label) → stateImage of (begin A K l) ≡ begin B K l
-    begin-image l = simp (declared-image, of-one)
+    fresh-image : (l : Label) → stateImage of (freshState A K l) ≡ freshState B K l
+    fresh-image l = simp (declared-image, of-one)
 
     pub images : Images A B of size K
     images =
         record {
-          event-image = react-image;
-          begin-image = begin-image;
-          after-image = λ l es. after-from es (begin A K l) ∙ ap (λ (s : State (B .H)). after B size K s es) (begin-image l);
-          answers-image = λ l es. answers-from es (begin A K l) ∙ ap (λ (s : State (B .H)). answers B size K s es) (begin-image l);
+          event-image = outcome-image;
+          fresh-image = fresh-image;
+          after-image = λ l es. after-from es (freshState A K l) ∙ ap (λ (s : State (B .H)). stateAfter B size K s es) (fresh-image l);
+          answers-image = λ l es. answers-from es (freshState A K l) ∙ ap (λ (s : State (B .H)). answers B size K s es) (fresh-image l);
         }

@@ -11,12 +11,12 @@ use Rattle.book.specs.Refusals.{valueNamed}
 use Rattle.typing.specs.Shapes.{onSome}
 use Rattle.machine.specs.Control.{given, onPlain, onCell, onCode}
 use Rattle.machine.specs.Acts.{execLabel, writing, relabelling, making, starting, executing}
-use Rattle.machine.specs.Steps.{sum, adding, reading, lowering, take}
-use Rattle.machine.specs.Events.{land, landTurn, react, after, answers}
+use Rattle.machine.specs.Steps.{sum, adding, reading, lowering, turnOf}
+use Rattle.machine.specs.Events.{landed, turnLanded, outcomeOf, stateAfter, answers}
 use Rattle.machine.specs.Samples.{SampleRuns}
 
 pub sample-runs : SampleRuns
-unfolding lower both either those while span limits group numberAt cut recordsIn recordsFrom groupOf stepsFrom shapeAt valueOf declaredAt stepAt blockAt parse valueNamed onSome given onPlain onCell onCode execLabel writing relabelling making starting executing sum adding reading lowering take land landTurn react after answers
+unfolding lower both either those while span limits group numberAt cut recordsIn recordsFrom groupOf stepsFrom shapeAt valueOf declaredAt stepAt blockAt parse valueNamed onSome given onPlain onCell onCode execLabel writing relabelling making starting executing sum adding reading lowering turnOf landed turnLanded outcomeOf stateAfter answers
 sample-runs =
     record {
       high-answers = refl;

@@ -1,8 +1,8 @@
 -- Events, their answers, and a run: 01, "The machine".
 --     done, stopped, finished, noSuch     the answers
---     Outcome, land                       an event's answer and the state after it
---     react                               what an event does
---     begin, after, answers               the fresh state; a list of events, one after the other
+--     Outcome, landed                     an event's answer and the state after it
+--     outcomeOf                           what an event does
+--     freshState, stateAfter, answers     the fresh state; a list of events, one after the other
 -- Every book and every list of events has an answer, an accepted book or not, any number in any field. Assumes nothing.
 use Prim.Native.Nat.{ℕ}
 use mathlib.Core.Bool.{Bool, not}
@@ -23,7 +23,7 @@ use Rattle.machine.specs.Control.{given}
 use Rattle.machine.specs.Histories.{Histories}
 use Rattle.machine.specs.States.{Traced, Cell, Job, State}
 use Rattle.machine.specs.Acts.{Effect, blocked, keep, store, create, launch, freshJob, writing, relabelling, making, starting, executing}
-use Rattle.machine.specs.Steps.{Turn, take}
+use Rattle.machine.specs.Steps.{Turn, turnOf}
 
 -- "Answer bytes: 0 done, 1 blocked, 2 no step left, 3 no such."
 abbrev pub done : ℕ
@@ -90,27 +90,27 @@ pub record Outcome (H : Type 0) : Type 0 where
 
 module _ {H : Type 0} where
   -- answers 1 to 3: "changes nothing"
-  abbrev pub halt : ℕ → State H → Outcome H
-  halt n s = record { answer = n; state = s }
+  abbrev pub unchanged : ℕ → State H → Outcome H
+  unchanged n s = record { answer = n; state = s }
 
-  abbrev pub ends : State H → Outcome H
-  ends t = record { answer = done; state = t }
+  abbrev pub changed : State H → Outcome H
+  changed t = record { answer = done; state = t }
 
   -- the effect on the tables; s is the state before, t the same with the actor's step done
-  unfoldable pub land : State H → State H → Effect H → Outcome H
-  land s t blocked = halt stopped s
-  land s t keep = ends t
-  land s t (store k c) = ends (record { cells = set (t .cells) k c; jobs = t .jobs })
-  land s t (create c) = ends (record { cells = t .cells ++ (c ∷ []); jobs = t .jobs })
-  land s t (launch j) = ends (record { cells = t .cells; jobs = t .jobs ++ (j ∷ []) })
+  unfoldable pub landed : State H → State H → Effect H → Outcome H
+  landed s t blocked = unchanged stopped s
+  landed s t keep = changed t
+  landed s t (store k c) = changed (record { cells = set (t .cells) k c; jobs = t .jobs })
+  landed s t (create c) = changed (record { cells = t .cells ++ (c ∷ []); jobs = t .jobs })
+  landed s t (launch j) = changed (record { cells = t .cells; jobs = t .jobs ++ (j ∷ []) })
 
   -- the turn of job i
-  unfoldable pub landTurn : State H → ℕ → Turn H → Outcome H
-  landTurn s i t = land s (record { cells = s .cells; jobs = set (s .jobs) i (t .job) }) (t .effect)
+  unfoldable pub turnLanded : State H → ℕ → Turn H → Outcome H
+  turnLanded s i t = landed s (record { cells = s .cells; jobs = set (s .jobs) i (t .job) }) (t .effect)
 
   -- "Answer 3 comes first and changes nothing"
   abbrev pub ifSuch : State H → Bool → Outcome H → Outcome H
-  ifSuch s b o = given b o (halt noSuch s)
+  ifSuch s b o = given b o (unchanged noSuch s)
 
 -- over any histories
 module _ (A : Histories) where
@@ -121,8 +121,8 @@ module _ (A : Histories) where
   declared d = record { shape = d .shape; label = d .label; content = record { value = d .value; history = one topLabel } }
 
   -- "A run begins fresh: .. job 0 is its only job". It runs block 0 at the launch label, which is also its history.
-  abbrev pub begin : Book → Label → State H
-  begin K l = record { cells = map declared (K .cells); jobs = freshJob A 0 l (one l) ∷ [] }
+  abbrev pub freshState : Book → Label → State H
+  freshState K l = record { cells = map declared (K .cells); jobs = freshJob A 0 l (one l) ∷ [] }
 
 -- over any histories, in tables of this size
 module _ (A : Histories) (size : ℕ) (K : Book) where
@@ -132,26 +132,26 @@ module _ (A : Histories) (size : ℕ) (K : Book) where
   abbrev pub brought : Label → ℕ → ℕ → Traced H
   brought q k n = record { value = valueOf k n; history = one q }
 
-  unfoldable pub react : State H → Event → Outcome H
-  react s (StepOf i) =
-      onSome (getElem? (s .jobs) i) (halt noSuch s)
-      (λ j. onSome (getElem? (blockOf K (j .block) .steps) (j .position)) (halt finished s)
-      (λ p. landTurn s i (take A size s j p)))
-  react s (WriteBy q k v n) =
-      ifSuch s (both (isOutsider K q) (both (isCell K s k) (isValue K s v n))) (land s s (writing A size s q (one q) k (brought q v n)))
-  react s (RelabelBy q k o) =
-      ifSuch s (both (isOutsider K q) (both (isCell K s k) (isLabel o))) (land s s (relabelling A size s q (one q) k o))
-  react s (NewBy q i v n) =
-      ifSuch s (both (isOutsider K q) (both (isLowCellShape K i) (isValue K s v n))) (land s s (making A size s q (one q) i (brought q v n)))
-  react s (ExecBy q k) = ifSuch s (both (isOutsider K q) (isCell K s k)) (land s s (executing A size s q (one q) k))
-  react s (StartBy q b) = ifSuch s (both (isOutsider K q) (isBlock K b)) (land s s (starting A size s q (one q) b))
+  unfoldable pub outcomeOf : State H → Event → Outcome H
+  outcomeOf s (StepOf i) =
+      onSome (getElem? (s .jobs) i) (unchanged noSuch s)
+      (λ j. onSome (getElem? (blockOf K (j .block) .steps) (j .position)) (unchanged finished s)
+      (λ p. turnLanded s i (turnOf A size s j p)))
+  outcomeOf s (WriteBy q k v n) =
+      ifSuch s (both (isOutsider K q) (both (isCell K s k) (isValue K s v n))) (landed s s (writing A size s q (one q) k (brought q v n)))
+  outcomeOf s (RelabelBy q k o) =
+      ifSuch s (both (isOutsider K q) (both (isCell K s k) (isLabel o))) (landed s s (relabelling A size s q (one q) k o))
+  outcomeOf s (NewBy q i v n) =
+      ifSuch s (both (isOutsider K q) (both (isLowCellShape K i) (isValue K s v n))) (landed s s (making A size s q (one q) i (brought q v n)))
+  outcomeOf s (ExecBy q k) = ifSuch s (both (isOutsider K q) (isCell K s k)) (landed s s (executing A size s q (one q) k))
+  outcomeOf s (StartBy q b) = ifSuch s (both (isOutsider K q) (isBlock K b)) (landed s s (starting A size s q (one q) b))
 
   -- the state after a list of events, one after the other
-  unfoldable pub after : State H → List Event → State H
-  after s [] = s
-  after s (e ∷ es) = after (react s e .state) es
+  unfoldable pub stateAfter : State H → List Event → State H
+  stateAfter s [] = s
+  stateAfter s (e ∷ es) = stateAfter (outcomeOf s e .state) es
 
   -- their answers
   unfoldable pub answers : State H → List Event → List ℕ
   answers s [] = []
-  answers s (e ∷ es) = react s e .answer ∷ answers (react s e .state) es
+  answers s (e ∷ es) = outcomeOf s e .answer ∷ answers (outcomeOf s e .state) es

@@ -12,7 +12,7 @@ use Rattle.book.specs.Book.{Book}
 use Rattle.machine.specs.declared.Event.{Event}
 use Rattle.machine.specs.Histories.{Histories, History, lists, source, sources}
 use Rattle.machine.specs.States.{Traced, Cell, Job, State}
-use Rattle.machine.specs.Events.{Outcome, react, begin, after, answers}
+use Rattle.machine.specs.Events.{Outcome, outcomeOf, freshState, stateAfter, answers}
 
 pub record Image (A B : Histories) : Type 0 where
   pub of : A .H → B .H
@@ -44,11 +44,11 @@ module _ {G H : Type 0} (f : G → H) where
 
 -- the machine over B is the image of the machine over A: at each event, and so from the start through every list of events
 pub record Images (A B : Histories) (f : A .H → B .H) (size : ℕ) (K : Book) : Type 0 where
-  pub event-image : (s : State (A .H)) (e : Event) → outcomeImage f (react A size K s e) ≡ react B size K (stateImage f s) e
-  pub begin-image : (l : Label) → stateImage f (begin A K l) ≡ begin B K l
+  pub event-image : (s : State (A .H)) (e : Event) → outcomeImage f (outcomeOf A size K s e) ≡ outcomeOf B size K (stateImage f s) e
+  pub fresh-image : (l : Label) → stateImage f (freshState A K l) ≡ freshState B K l
   pub after-image : (l : Label) (es : List Event)
-      → stateImage f (after A size K (begin A K l) es) ≡ after B size K (begin B K l) es
-  pub answers-image : (l : Label) (es : List Event) → answers A size K (begin A K l) es ≡ answers B size K (begin B K l) es
+      → stateImage f (stateAfter A size K (freshState A K l) es) ≡ stateAfter B size K (freshState B K l) es
+  pub answers-image : (l : Label) (es : List Event) → answers A size K (freshState A K l) es ≡ answers B size K (freshState B K l) es
 
 -- the sources
 abbrev pub SourceLaw : Type 0

@@ -9,7 +9,7 @@ use Rattle.typing.specs.Samples.{bookA, write}
 use Rattle.machine.specs.declared.Event.{Event}
 use Rattle.machine.specs.declared.Event.the-variants.{StepOf, WriteBy}
 use Rattle.machine.specs.Histories.{lists}
-use Rattle.machine.specs.Events.{tableSize, launchLabel, begin, after, answers}
+use Rattle.machine.specs.Events.{tableSize, launchLabel, freshState, stateAfter, answers}
 use Rattle.machine.specs.Records.{CellRecord, cellRecords}
 
 -- book A, with this bound
@@ -17,10 +17,10 @@ abbrev pub ofBound : ℕ → Book
 ofBound b = parse (bookA 0x09 0x09 b write)
 
 abbrev pub answersOf : Book → List Event → List ℕ
-answersOf K es = answers lists tableSize K (begin lists K (launchLabel K)) es
+answersOf K es = answers lists tableSize K (freshState lists K (launchLabel K)) es
 
 abbrev pub cellsAfter : Book → List Event → List CellRecord
-cellsAfter K es = cellRecords K (after lists tableSize K (begin lists K (launchLabel K)) es)
+cellsAfter K es = cellRecords K (stateAfter lists tableSize K (freshState lists K (launchLabel K)) es)
 
 -- "50 00 four times"
 abbrev pub fourSteps : List Event

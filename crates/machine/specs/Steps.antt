@@ -1,7 +1,7 @@
 -- A step of a job: 01, "The machine". Each kind of step is one definition.
---     Turn                 the job after its step, and what the step does to the tables
---     register, gets       a register of a job; a job whose step gave a register
---     adding, .., take     each kind of step; a step
+--     Turn                   the job after its step, and what the step does to the tables
+--     register, gets         a register of a job; a job whose step gave a register
+--     adding, .., turnOf     each kind of step; a step
 -- Assumes nothing.
 use Prim.Native.Nat.{ℕ, suc, _+_, _%_}
 use lib.ListN.{length, getD, set, getElem?}
@@ -87,17 +87,17 @@ module _ (A : Histories) where
 
   -- A step of job j, in tables of this size.
   module _ (size : ℕ) (s : State H) (j : Job H) where
-    unfoldable pub take : Step → Turn H
-    take (Put r n) = giving j r (Plain n)
-    take (Name r k) = giving j r (CellName k)
-    take (Code r b) = giving j r (CodeName b)
-    take (Add r a b) = adding j r (register j a) (register j b)
+    unfoldable pub turnOf : Step → Turn H
+    turnOf (Put r n) = giving j r (Plain n)
+    turnOf (Name r k) = giving j r (CellName k)
+    turnOf (Code r b) = giving j r (CodeName b)
+    turnOf (Add r a b) = adding j r (register j a) (register j b)
     -- "r gets its name with the job's history"
-    take (New r i a) =
+    turnOf (New r i a) =
         turn (gets j r (CellName (length (s .cells))) (j .history)) (making A size s (j .label) (j .history) i (register j a))
-    take (Read r w) = reading s j r w
-    take (Write w a) = through j w (λ k. writing A size s (j .label) (j .history) k (register j a))
-    take (Relabel w o) = through j w (λ k. relabelling A size s (j .label) (j .history) k o)
-    take (Lower q) = lowering j q
-    take (Start b) = turn (moved j) (starting A size s (j .label) (j .history) b)
-    take (Exec w) = through j w (executing A size s (j .label) (j .history))
+    turnOf (Read r w) = reading s j r w
+    turnOf (Write w a) = through j w (λ k. writing A size s (j .label) (j .history) k (register j a))
+    turnOf (Relabel w o) = through j w (λ k. relabelling A size s (j .label) (j .history) k o)
+    turnOf (Lower q) = lowering j q
+    turnOf (Start b) = turn (moved j) (starting A size s (j .label) (j .history) b)
+    turnOf (Exec w) = through j w (executing A size s (j .label) (j .history))
