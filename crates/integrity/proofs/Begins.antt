@@ -2,29 +2,27 @@
 --     Accepted              what acceptance says of the parsed book
 --     fresh-state-ok        for every launch label up to the bound
 -- Assumes nothing.
-use mathlib.Core.Path.{_≡_, refl, sym, ap, _∙_}
+use mathlib.Core.Path.{_≡_, refl, ap}
 use mathlib.Core.Bool.{Bool, true, false}
 use mathlib.Core.Option.{Option, none, some}
 use mathlib.Core.List.{List, [], _∷_, map}
-use Prim.Native.Nat.{ℕ, zero, suc, max, _<_, _≤_}
+use Prim.Native.Nat.{ℕ, zero, suc, _<_, _≤_}
 use native.Mathlib.Omega.{arith}
-use lib.ListN.{getD, getElem?}
+use lib.ListN.{getElem?}
 use borrow.Author.Tests.{leb-true, ltb-true}
 use Rattle.labels.specs.declared.Label.{Label}
 use Rattle.labels.specs.declared.Trust.{Trust}
-use Rattle.labels.specs.Labels.{isHigh, isMet, normal}
+use Rattle.labels.specs.Labels.{isMet}
 use Rattle.book.specs.declared.Value.{Value}
 use Rattle.book.specs.declared.Value.the-variants.{Plain, CellName, CodeName}
 use Rattle.book.specs.declared.Declared.{Declared}
-use Rattle.book.specs.Control.{if_then_else_, both}
+use Rattle.book.specs.Control.{both}
 use Rattle.book.specs.Book.{Book, Block}
-use Rattle.book.proofs.Tests.{clash, both-left, both-right}
-use Rattle.typing.specs.declared.Known.{Known}
+use Rattle.book.proofs.Tests.{both-left, both-right}
 use Rattle.typing.specs.declared.Known.the-variants as N
 use Rattle.typing.specs.Shapes.{viewOf, onSome, isCell, contentOf, trustOf, highTrust, fits, knownValue, declaredOk}
 use Rattle.typing.specs.Asked.{Sound}
 use Rattle.machine.specs.Histories.{sources}
-use Rattle.machine.specs.States.{Cell, State}
 use Rattle.machine.specs.Events.{blockOf, launchLabel, declared, freshState}
 use Rattle.integrity.proofs.Trees.{Tree, cell, tree-cell, tree-trust}
 use Rattle.integrity.proofs.Entries.{All}

@@ -2,15 +2,14 @@
 --     accepted        an accepted book's parsed book is accepted
 -- Assumes nothing.
 use Prim.Native.Nat.{ℕ, _+_, _<_, _≤_}
-use mathlib.Core.Path.{_≡_, refl, sym, ap, _∙_}
+use mathlib.Core.Path.{_≡_, refl}
 use mathlib.Core.Bool.{Bool, true, false, not}
 use mathlib.Core.List.{List, [], _∷_, map}
 use native.Mathlib.Omega.{arith}
 use lib.Dec.{eqb, ltb}
 use lib.ListN.{getD}
-use borrow.Author.Tests.{eqb-true, ltb-false, eq-eqb, not-false}
+use borrow.Author.Tests.{eqb-true, ltb-false, not-false}
 use Rattle.book.specs.declared.Shape.{Shape}
-use Rattle.book.specs.declared.Declared.{Declared}
 use Rattle.book.specs.declared.Step.{Step}
 use Rattle.book.specs.declared.Fault.{Fault}
 use Rattle.book.specs.declared.Fault.the-variants.{Nowhere, At}
@@ -19,11 +18,11 @@ use Rattle.book.specs.declared.Refusal.the-variants as B
 use Rattle.book.specs.Control.{either, those, sweep, first}
 use Rattle.book.specs.Kinds.{limits}
 use Rattle.book.specs.Records.{byteAt, records, inGroup}
-use Rattle.book.specs.Book.{Book, Block, groupOf, shapesOf, cellsOf, blocksOf, stepsFrom, shapeAt, declaredAt, stepAt, blockAt, parse}
+use Rattle.book.specs.Book.{Block, groupOf, shapesOf, cellsOf, blocksOf, stepsFrom, shapeAt, declaredAt, stepAt, blockAt, parse}
 use Rattle.book.specs.Refusals.{noShape, above, outOfRange, rangeFault, unreadable}
 use Rattle.book.proofs.Tests.{either-left, either-right}
 use Rattle.book.proofs.Lower.{lower}
-use Rattle.book.proofs.Readable.{Readable, readable}
+use Rattle.book.proofs.Readable.{readable}
 use Rattle.typing.specs.declared.State.{State}
 use Rattle.typing.specs.declared.Verdict.{Verdict}
 use Rattle.typing.specs.declared.Verdict.the-variants as Verdicts

@@ -1,5 +1,6 @@
 -- A predicate at each entry of a table, and a relation between the entries of two: look-ups, stores, new entries.
 --     All, all-set, .., all-map          a predicate
+--     map-all, map-from                  entries of a mapped list
 --     All2, all2-set, .., all2-map       a relation
 -- Assumes nothing.
 use mathlib.Core.Path.{_≡_, refl}
@@ -28,15 +29,21 @@ module _ {A : Type 0} (P : A → Type 0) where
   all-at (x ∷ xs) zero a h e = let z : x ≡ a = cc in rw z at (h .0)
   all-at (x ∷ xs) (suc i) a h e = all-at xs i a (h .1) e
 
-  pub all-mem : (l : List A) (a : A) → All l → List·Memᴰ a l → P a
-  all-mem [] a h m = absurd (List·Memᴰ·not-nil m)
-  all-mem (x ∷ xs) a h (List·Memᴰ·head e) = rw e (h .0)
-  all-mem (x ∷ xs) a h (List·Memᴰ·tail m) = all-mem xs a (h .1) m
-
   pub all-get : (l : List A) (i : ℕ) (d : A) → All l → P d → P (getD l i d)
   all-get [] i d h p = p
   all-get (x ∷ xs) zero d h p = h .0
   all-get (x ∷ xs) (suc i) d h p = all-get xs i d (h .1) p
+
+-- an entry of a list, where its image is one of the mapped list; and back
+pub map-all : {A B : Type 0} (f : A → B) (P : B → Type 0) (l : List A) (a : A) → All P (map f l) → List·Memᴰ a l → P (f a)
+map-all f P [] a h m = absurd (List·Memᴰ·not-nil m)
+map-all f P (x ∷ xs) a h (List·Memᴰ·head e) = rw e (h .0)
+map-all f P (x ∷ xs) a h (List·Memᴰ·tail m) = map-all f P xs a (h .1) m
+
+pub map-from : {A B : Type 0} (f : A → B) (P : B → Type 0) → (l : List A) → ((a : A) → List·Memᴰ a l → P (f a)) → (b : B) → List·Memᴰ b (map f l) → P b
+map-from f P [] g b m = absurd (List·Memᴰ·not-nil m)
+map-from f P (x ∷ xs) g b (List·Memᴰ·head e) = rw e (g x (List·Memᴰ·head refl))
+map-from f P (x ∷ xs) g b (List·Memᴰ·tail m) = map-from f P xs (λ a i. g a (List·Memᴰ·tail i)) b m
 
 pub all-map : {A : Type 0} {P Q : A → Type 0} → ((a : A) → P a → Q a) → (l : List A) → All P l → All Q l
 all-map f [] h = h

@@ -1,23 +1,21 @@
 -- A step at P above C: what the rule says of it holds of what the machine does. One lemma for each kind of step.
 -- Assumes nothing.
-use mathlib.Core.Path.{_≡_, refl, sym, ap, _∙_}
+use mathlib.Core.Path.{_≡_, refl, ap}
 use mathlib.Core.Bool.{Bool, true, false, not}
-use mathlib.Core.Option.{Option, some}
-use mathlib.Core.List.{List, [], _∷_, _++_, map}
-use Prim.Native.Nat.{ℕ, suc, min, max, _<_, _≤_}
-use native.Mathlib.Nat.{le-trans}
+use mathlib.Core.Option.{some}
+use mathlib.Core.List.{map}
+use Prim.Native.Nat.{ℕ, max, _<_, _≤_}
 use native.Mathlib.Omega.{arith}
 use lib.Dec.{leb}
 use lib.ListN.{length, getElem?}
 use borrow.Author.Tests.{leb-true, leb-false}
 use Rattle.labels.specs.declared.Label.{Label}
-use Rattle.labels.specs.Labels.{lower, capped}
+use Rattle.labels.specs.Labels.{lower}
 use Rattle.book.specs.declared.Value.the-variants.{Plain, CellName, CodeName}
 use Rattle.book.specs.declared.Declared.{Declared}
 use Rattle.book.specs.Control.{both, either}
 use Rattle.book.specs.Book.{Book, Block}
-use Rattle.book.proofs.Tests.{clash, both-left, both-right, either-left}
-use Rattle.book.proofs.Tests.{either-right as either-right-false}
+use Rattle.book.proofs.Tests.{clash, both-left, both-right, either-left, either-right}
 use Rattle.typing.specs.declared.Known.the-variants as N
 use Rattle.typing.specs.declared.State as T
 use Rattle.typing.specs.Shapes.{isCell, contentOf, trustOf, highTrust, knownOf}
@@ -25,32 +23,20 @@ use Rattle.typing.specs.Rules.{known, isLow, holds, used}
 use Rattle.typing.specs.Rules as R
 use Rattle.typing.specs.Asked.{Sound}
 use Rattle.machine.specs.Histories.{sources}
-use Rattle.machine.specs.States.{Traced, Cell, Job, State}
-use Rattle.machine.specs.Acts.{Effect, keep, create, launch, execLabel, freshJob, acted, writing, relabelling, making, starting, executing}
+use Rattle.machine.specs.States.{Cell, Job, State}
+use Rattle.machine.specs.Acts.{keep, create, execLabel, freshJob, acted, writing, relabelling, making, starting, executing}
 use Rattle.machine.specs.Steps.{register, gets, giving, moved, through, adding, reading, lowering}
 use Rattle.machine.specs.Events.{blockOf}
-use Rattle.integrity.proofs.Trees.{cell, code, tree-cell}
+use Rattle.integrity.proofs.Booleans.{both-true, either-second, not-false}
+use Rattle.integrity.proofs.Trees.{code, tree-cell}
 use Rattle.integrity.proofs.Entries.{All2, all2-map}
-use Rattle.integrity.proofs.Numbers.{facts, act-source, read-source, read-above, joined-three, add-source, exec-bound, exec-own, exec-code, exec-number, held-label, lower-number}
-use Rattle.integrity.proofs.Invariant.{Cells, shapeOf, treeOf, Has, Fits, Good, CellOk, RegisterOk, Match, JobOk, Invariant}
-use Rattle.integrity.proofs.Effects.{EffectOk, keep-ok, create-ok, launch-ok, created}
+use Rattle.integrity.proofs.Numbers.{facts, act-source, read-source, read-above, joined-three, add-source, exec-bound, exec-own, exec-code, held-label, lower-number}
+use Rattle.integrity.proofs.Invariant.{shapeOf, treeOf, Has, Good, CellOk, RegisterOk, Match, JobOk, Invariant}
+use Rattle.integrity.proofs.Effects.{keep-ok, create-ok, launch-ok, created}
 use Rattle.integrity.proofs.Walks.{StepOk, fine, never-stuck, need-ok, free-ok, either-ok, some-ok, known-cell-ok, known-code-ok, given-ok, entry-ok, plain-ok, cell-ok, given-effect, entry-effect, code-effect}
 use Rattle.integrity.proofs.Knowledge.{bound-is, named-has, fits-has, has-known, known-code, known-cellular}
 use Rattle.integrity.proofs.LowActs.{BlocksPass, fresh-ok, low-good, one-shape}
-use Rattle.integrity.proofs.Outcomes.{known-cell, register-ok, fits-known, gives-ok, low-ok, own-ok, moves-ok, tree-at, good-at, put-back}
-
-either-right : (a b : Bool) → either a b ≡ true → a ≡ false → b ≡ true
-unfolding either
-either-right true b e f = clash refl f
-either-right false b e f = e
-
-both-true : (a b : Bool) → a ≡ true → b ≡ true → both a b ≡ true
-unfolding both
-both-true a b p q = simp p q
-
-not-false : (b : Bool) → b ≡ true → not b ≡ false
-not-false true e = refl
-not-false false e = clash e refl
+use Rattle.integrity.proofs.Outcomes.{register-ok, fits-known, gives-ok, low-ok, own-ok, moves-ok, good-at, put-back}
 
 module _ (K : Book) (size : ℕ) (s : State Label) (v : Invariant K s) (ok : Sound (shapeOf K)) (pass : BlocksPass K) (j : Job Label) (t : T.State)
     (m : Match K (s .cells) t j) where
@@ -101,7 +87,7 @@ module _ (K : Book) (size : ℕ) (s : State Label) (v : Invariant K s) (ok : Sou
           (treeOf K (contentOf (K .c) (shapeOf K) i)) (trustOf (K .c) (shapeOf K) i .0)
       go false p = low-good K (s .cells) _ _ _ (omega facts)
       go true p =
-          let h = either-right _ _ e (not-false _ p) in
+          let h = either-second _ _ e (not-false _ p) in
           let w = holds-has a i (both-right _ _ h) in
           let u = holds-used a i (both-right _ _ h) in
           let n = m .lowered (both-left _ _ h) in
@@ -145,7 +131,7 @@ module _ (K : Book) (size : ℕ) (s : State Label) (v : Invariant K s) (ok : Sou
     lowered-stuck : either (leb (q .0) (t .p .0)) (leb (q .0) (K .c .0)) ≡ false → ⊥
     lowered-stuck f =
         let x : leb (q .0) (t .p .0) ≡ false = either-left _ _ f in
-        let y : leb (q .0) (K .c .0) ≡ false = either-right-false _ _ f in
+        let y : leb (q .0) (K .c .0) ≡ false = either-right _ _ f in
         let h = m .label in
         omega facts
 
@@ -162,7 +148,7 @@ module _ (K : Book) (size : ℕ) (s : State Label) (v : Invariant K s) (ok : Sou
       (λ f. never-stuck K (lowered-stuck q e f)))
 
   pub write-ok : (w a : ℕ) → K .c .0 < t .p .0
-      → StepOk K (s .cells) j (R.writing (K .c) (shapeOf K) t w a) (through sources j w (λ k. writing sources size s (j .label) (j .history) k (register sources j a)))
+      → StepOk K (s .cells) j (R.writing (K .c) (shapeOf K) t w a) (through sources j w (λ k. writing sources s (j .label) (j .history) k (register sources j a)))
   unfolding writing
   write-ok w a hi =
       known-cell-ok K (λ i ei. cell-ok K (λ k ek. entry-effect K (λ c ec. given-effect K (λ el. free-ok K
@@ -177,7 +163,7 @@ module _ (K : Book) (size : ℕ) (s : State Label) (v : Invariant K s) (ok : Sou
       stored i k c ei ek ec el e false p = low-good K (s .cells) _ _ _ (omega facts)
       stored i k c ei ek ec el e true p =
           let g = good-at K s j t m ok v w i k c ei ek ec in
-          let h = either-right _ _ e (not-false _ p) in
+          let h = either-second _ _ e (not-false _ p) in
           let x = holds-has a i h in
           let l = held-label (K .c .0) _ (c .label .0) (j .label .0) (omega facts) (g .label) el in
           record { label = g .label; source = holds-source a i h (omega facts) l; has = λ z. x }
@@ -191,7 +177,7 @@ module _ (K : Book) (size : ℕ) (s : State Label) (v : Invariant K s) (ok : Sou
           omega arith
 
   pub relabel-ok : (w : ℕ) (o : Label) → K .c .0 < t .p .0
-      → StepOk K (s .cells) j (R.relabelling (K .c) (shapeOf K) t w o) (through sources j w (λ k. relabelling sources size s (j .label) (j .history) k o))
+      → StepOk K (s .cells) j (R.relabelling (K .c) (shapeOf K) t w o) (through sources j w (λ k. relabelling sources s (j .label) (j .history) k o))
   unfolding relabelling
   relabel-ok w o hi =
       known-cell-ok K (λ i ei. cell-ok K (λ k ek. entry-effect K (λ c ec. given-effect K (λ el. free-ok K

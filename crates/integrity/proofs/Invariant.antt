@@ -3,12 +3,12 @@
 --     CellOk, JobOk, Invariant   a cell, a job, a state
 --     Grows                      a table that knows at least the shapes of another; what it keeps
 -- `x ≤ max C y` says: where x is above C, y is at least x. Assumes nothing.
-use mathlib.Core.Path.{_≡_, refl, _∙_}
+use mathlib.Core.Path.{_≡_}
 use mathlib.Core.Bool.{Bool, true, false}
 use mathlib.Core.Option.{Option, none, some}
-use mathlib.Core.List.{List, [], _∷_, _++_, map}
-use Prim.Native.Nat.{ℕ, zero, suc, min, max, _<_, _≤_}
-use lib.ListN.{length, getD, set, getElem?, drop}
+use mathlib.Core.List.{List, [], _∷_, map}
+use Prim.Native.Nat.{ℕ, min, max, _<_, _≤_}
+use lib.ListN.{getD, getElem?, drop}
 use Rattle.labels.specs.declared.Label.{Label}
 use Rattle.book.specs.declared.Shape.{Shape}
 use Rattle.book.specs.declared.Value.{Value}

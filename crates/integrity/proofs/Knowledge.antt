@@ -4,8 +4,8 @@
 --     named-has             a cell's name
 --     bound-is              the bound of a block
 -- Assumes nothing.
-use mathlib.Core.Path.{_≡_, refl, sym, ap, _∙_}
-use mathlib.Core.Bool.{Bool, true, false, not}
+use mathlib.Core.Path.{_≡_, refl, ap, _∙_}
+use mathlib.Core.Bool.{Bool, true, false}
 use mathlib.Core.Option.{some}
 use mathlib.Core.List.{List, [], _∷_, map}
 use Prim.Native.Nat.{ℕ, zero, suc, _≤_}
@@ -13,18 +13,16 @@ use native.Mathlib.Omega.{arith}
 use lib.ListN.{getD, getElem?}
 use borrow.Author.Tests.{leb-true, not-true}
 use Rattle.labels.specs.declared.Label.{Label}
-use Rattle.labels.specs.Labels.{reaches}
 use Rattle.book.specs.declared.Value.{Value}
 use Rattle.book.specs.declared.Value.the-variants.{Plain, CellName, CodeName}
-use Rattle.book.specs.Control.{both}
 use Rattle.book.specs.Book.{Book, Block}
 use Rattle.book.proofs.Tests.{clash, both-left, both-right}
 use Rattle.typing.specs.declared.Known.{Known}
 use Rattle.typing.specs.declared.Known.the-variants as N
-use Rattle.typing.specs.Shapes.{isCode, isCell, isPlain, boundOf, knownOf, fits}
+use Rattle.typing.specs.Shapes.{isCode, isCell, boundOf, knownOf, fits}
 use Rattle.typing.specs.Asked.{Sound}
-use Rattle.machine.specs.Events.{noBlock, blockOf}
-use Rattle.integrity.proofs.Trees.{Tree, plain, code, cell, tree-cell, tree-code, tree-plain, alike-tree}
+use Rattle.machine.specs.Events.{noBlock}
+use Rattle.integrity.proofs.Trees.{Tree, plain, code, cell, tree-code, tree-plain, alike-tree}
 use Rattle.integrity.proofs.Invariant.{Cells, shapeOf, treeOf, treeAt, Has, Fits}
 
 pub bound-is : (bs : List Block) (b : ℕ) (l : Label) → getElem? (map (λ (b : Block). b .bound) bs) b ≡ some l → getD bs b noBlock .bound ≡ l

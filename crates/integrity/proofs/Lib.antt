@@ -1,3 +1,4 @@
+pub mod Booleans
 pub mod Trees
 pub mod Entries
 pub mod Numbers

@@ -3,23 +3,20 @@
 --     low-writing, .., low-executing           the acts
 -- Assumes nothing.
 use mathlib.Core.Path.{_≡_, refl, sym, ap, _∙_}
-use mathlib.Core.Bool.{true, false}
+use mathlib.Core.Bool.{true}
 use mathlib.Core.Option.{some}
 use Prim.Native.Nat.{ℕ, max, _≤_}
 use native.Mathlib.Omega.{arith}
 use lib.ListN.{getElem?}
 use borrow.Author.Tests.{leb-true}
 use Rattle.labels.specs.declared.Label.{Label}
-use Rattle.labels.specs.Labels.{reaches}
-use Rattle.book.specs.Control.{both}
 use Rattle.book.specs.Book.{Book}
 use Rattle.book.proofs.Tests.{clash, both-left}
-use Rattle.typing.specs.declared.Known.the-variants as N
 use Rattle.typing.specs.Shapes.{viewOf, trustOf}
 use Rattle.typing.specs.Rules.{passes, fresh}
 use Rattle.machine.specs.Histories.{sources}
-use Rattle.machine.specs.States.{Traced, Cell, Job, State}
-use Rattle.machine.specs.Acts.{Effect, store, create, launch, freshJob, writing, relabelling, making, starting, executing}
+use Rattle.machine.specs.States.{Traced, Cell, State}
+use Rattle.machine.specs.Acts.{store, create, freshJob, writing, relabelling, making, starting, executing}
 use Rattle.machine.specs.Events.{blockOf}
 use Rattle.integrity.proofs.Trees.{Tree, cell, tree-trust}
 use Rattle.integrity.proofs.Entries.{all-at, all2-replicate}
@@ -59,7 +56,7 @@ module _ (K : Book) (cs : Cells) where
   pub low-create : (c : Cell Label) → trustOf (K .c) (shapeOf K) (c .shape) .0 ≤ K .c .0 → EffectOk K cs (create c)
   low-create c h = create-ok (λ t S e. let y = tree-trust (K .c) (shapeOf K) (c .shape) t S e in low-good c t S (omega arith))
 
-module _ (K : Book) (size : ℕ) (s : State Label) (v : Invariant K s) (l h : Label) (lo : l .0 ≤ K .c .0) where
+module _ (K : Book) (s : State Label) (v : Invariant K s) (l h : Label) (lo : l .0 ≤ K .c .0) where
   low-store : (k : ℕ) (c d : Cell Label) → getElem? (s .cells) k ≡ some c → c .label .0 ≤ l .0 → d .shape ≡ c .shape
       → EffectOk K (s .cells) (store k d)
   low-store k c d e p q = store-ok low (store-tree K (s .cells) k c d e q)
@@ -69,15 +66,16 @@ module _ (K : Book) (size : ℕ) (s : State Label) (v : Invariant K s) (l h : La
           let g = all-at (CellOk K (s .cells)) (s .cells) k c (v .cells) e t S (ap (treeOf K) (sym q) ∙ z) in
           low-good K (s .cells) d t S (omega (arith, g .label))
 
-  pub low-writing : (k : ℕ) (w : Traced Label) → EffectOk K (s .cells) (writing sources size s l h k w)
+  pub low-writing : (k : ℕ) (w : Traced Label) → EffectOk K (s .cells) (writing sources s l h k w)
   unfolding writing
   low-writing k w = entry-act K (λ c ec. given-act K (λ el. low-store k c _ ec (leb-true _ _ el) refl))
 
-  pub low-relabelling : (k : ℕ) (o : Label) → EffectOk K (s .cells) (relabelling sources size s l h k o)
+  pub low-relabelling : (k : ℕ) (o : Label) → EffectOk K (s .cells) (relabelling sources s l h k o)
   unfolding relabelling
   low-relabelling k o =
       entry-act K (λ c ec. given-act K (λ e. low-store k c _ ec (leb-true _ _ (both-left _ _ e)) refl))
 
+module _ (K : Book) (size : ℕ) (s : State Label) (v : Invariant K s) (l h : Label) (lo : l .0 ≤ K .c .0) where
   pub low-making : (i : ℕ) (w : Traced Label) → trustOf (K .c) (shapeOf K) i .0 ≤ K .c .0 → EffectOk K (s .cells) (making sources size s l h i w)
   unfolding making
   low-making i w p = given-act K (λ e. low-create K (s .cells) _ p)

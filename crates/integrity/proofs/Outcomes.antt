@@ -3,21 +3,19 @@
 --     gives-ok, .., moves-ok                   the job after its step
 --     tree-at, good-at, put-back               the cell that a register names
 -- Assumes nothing.
-use mathlib.Core.Path.{_≡_, refl, sym, _∙_}
+use mathlib.Core.Path.{_≡_, refl}
 use mathlib.Core.Bool.{Bool, true, false}
 use mathlib.Core.Option.{some}
-use Prim.Native.Nat.{ℕ, min, max, _<_, _≤_}
+use Prim.Native.Nat.{ℕ, _<_}
 use native.Mathlib.Omega.{arith}
 use lib.ListN.{getElem?}
 use Rattle.labels.specs.declared.Label.{Label}
 use Rattle.labels.specs.Labels.{label}
 use Rattle.book.specs.declared.Value.{Value}
 use Rattle.book.specs.declared.Value.the-variants.{CellName}
-use Rattle.book.specs.Control.{if_then_else_}
 use Rattle.book.specs.Book.{Book}
 use Rattle.typing.specs.declared.Known.{Known}
 use Rattle.typing.specs.declared.Known.the-variants as N
-use Rattle.typing.specs.declared.Register.{Register}
 use Rattle.typing.specs.declared.State as T
 use Rattle.typing.specs.Shapes.{isCell, contentOf, trustOf}
 use Rattle.typing.specs.Rules.{passes, known, lowRegister, isLow}
@@ -26,11 +24,11 @@ use Rattle.typing.specs.Asked.{Sound}
 use Rattle.machine.specs.Histories.{sources}
 use Rattle.machine.specs.States.{Traced, Cell, Job, State}
 use Rattle.machine.specs.Acts.{Effect, store, zeroWith}
-use Rattle.machine.specs.Steps.{Turn, register, gets, moved}
-use Rattle.integrity.proofs.Trees.{Tree, cell, tree-cell}
+use Rattle.machine.specs.Steps.{register, gets, moved}
+use Rattle.integrity.proofs.Trees.{cell, tree-cell}
 use Rattle.integrity.proofs.Entries.{all-at, all2-set, all2-get}
 use Rattle.integrity.proofs.Numbers.{facts}
-use Rattle.integrity.proofs.Invariant.{Cells, shapeOf, treeOf, treeAt, Has, Fits, Good, CellOk, RegisterOk, Match, Invariant, registers-kept}
+use Rattle.integrity.proofs.Invariant.{Cells, shapeOf, treeOf, treeAt, Fits, Good, CellOk, RegisterOk, Match, Invariant, registers-kept}
 use Rattle.integrity.proofs.Effects.{After, EffectOk, store-ok, grows, store-tree}
 use Rattle.integrity.proofs.Walks.{StepOk, fine}
 use Rattle.integrity.proofs.LowActs.{one-shape}

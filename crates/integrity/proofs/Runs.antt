@@ -2,34 +2,30 @@
 --     outcome-ok, state-after-ok
 -- Assumes nothing.
 use mathlib.Core.Path.{_≡_, refl}
-use mathlib.Core.Bool.{Bool, true, false, not}
+use mathlib.Core.Bool.{Bool, true, false}
 use mathlib.Core.Option.{Option, none, some}
 use mathlib.Core.List.{List, [], _∷_}
-use Prim.Native.Nat.{ℕ, suc, _≤_}
-use native.Mathlib.Omega.{arith}
-use lib.Dec.{ltb}
+use Prim.Native.Nat.{ℕ, suc}
 use lib.ListN.{set, getElem?, drop}
-use borrow.Author.Tests.{not-true, leb-true, ltb-false}
+use borrow.Author.Tests.{not-true, leb-true}
 use Rattle.labels.specs.declared.Label.{Label}
 use Rattle.book.specs.declared.Step.{Step}
-use Rattle.book.specs.Control.{both}
 use Rattle.book.specs.Book.{Book}
 use Rattle.book.proofs.Tests.{clash, both-left, both-right}
-use Rattle.typing.specs.Shapes.{viewOf, onSome, trustOf}
-use Rattle.typing.specs.Rules.{Typed, passes, stuck, breaks, step}
+use Rattle.typing.specs.Shapes.{viewOf, onSome}
+use Rattle.typing.specs.Rules.{Typed, breaks}
 use Rattle.typing.specs.Asked.{Sound}
 use Rattle.machine.specs.declared.Event.{Event}
 use Rattle.machine.specs.declared.Event.the-variants.{StepOf, WriteBy, RelabelBy, NewBy, ExecBy, StartBy}
 use Rattle.machine.specs.Control.{given}
 use Rattle.machine.specs.Histories.{sources}
-use Rattle.machine.specs.States.{Traced, Job, State}
-use Rattle.machine.specs.Acts.{Effect, blocked}
+use Rattle.machine.specs.States.{Job, State}
 use Rattle.machine.specs.Steps.{Turn, turnOf}
-use Rattle.machine.specs.Events.{Outcome, blockOf, isLowCellShape, brought, landed, turnLanded, outcomeOf, stateAfter}
+use Rattle.machine.specs.Events.{Outcome, blockOf, brought, landed, turnLanded, outcomeOf, stateAfter}
 use Rattle.integrity.proofs.Entries.{all-set, all-at, all-map, drop-at}
 use Rattle.integrity.proofs.Numbers.{low-normal}
 use Rattle.integrity.proofs.Invariant.{passesAll, shapeOf, JobOk, Invariant, job-kept}
-use Rattle.integrity.proofs.Effects.{After, EffectOk, grows, landed-ok, landed-outside}
+use Rattle.integrity.proofs.Effects.{After, grows, landed-ok, landed-outside}
 use Rattle.integrity.proofs.Walks.{StepOk, broken, waits, fine}
 use Rattle.integrity.proofs.LowActs.{BlocksPass, low-writing, low-relabelling, low-making, low-starting, low-executing}
 use Rattle.integrity.proofs.Steps.{step-ok}
@@ -78,14 +74,14 @@ module _ (K : Book) (size : ℕ) (ok : Sound (shapeOf K)) (pass : BlocksPass K) 
       there-ok (record { kept = v }) (λ j ej. there-ok (record { kept = v }) (λ p ep. record { kept = step-event s v i j ej p ep }))
   outcome-ok s v (WriteBy q k x n) =
       such-ok (record { kept = v })
-      (λ g. record { kept = landed-outside K s _ v (low-writing K size s v q q (leb-true _ _ (both-left _ _ g)) k (brought sources size K q x n)) })
+      (λ g. record { kept = landed-outside K s _ v (low-writing K s v q q (leb-true _ _ (both-left _ _ g)) k (brought sources q x n)) })
   outcome-ok s v (RelabelBy q k o) =
-      such-ok (record { kept = v }) (λ g. record { kept = landed-outside K s _ v (low-relabelling K size s v q q (leb-true _ _ (both-left _ _ g)) k o) })
+      such-ok (record { kept = v }) (λ g. record { kept = landed-outside K s _ v (low-relabelling K s v q q (leb-true _ _ (both-left _ _ g)) k o) })
   outcome-ok s v (NewBy q i x n) =
       such-ok (record { kept = v })
       (λ g.
       let l = low-normal (K .c) _ (not-true _ (both-right _ _ (both-left _ _ (both-right _ _ g)))) in
-      record { kept = landed-outside K s _ v (low-making K size s v q q (leb-true _ _ (both-left _ _ g)) i (brought sources size K q x n) l) })
+      record { kept = landed-outside K s _ v (low-making K size s v q q (leb-true _ _ (both-left _ _ g)) i (brought sources q x n) l) })
   outcome-ok s v (ExecBy q k) =
       such-ok (record { kept = v }) (λ g. record { kept = landed-outside K s _ v (low-executing K size s v q q (leb-true _ _ (both-left _ _ g)) pass k) })
   outcome-ok s v (StartBy q b) =

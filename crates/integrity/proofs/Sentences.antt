@@ -1,27 +1,27 @@
 -- From the invariant of the machine that keeps sources to the sentences, and to the records.
 --     kept        for a parsed book
 -- Assumes nothing.
-use mathlib.Core.Path.{_≡_, refl, sym, ap, _∙_}
+use mathlib.Core.Path.{_≡_, ap, _∙_}
 use mathlib.Core.Bool.{true}
-use mathlib.Core.List.{List, [], _∷_, map, List·Memᴰ, List·Memᴰ·head, List·Memᴰ·tail, List·Memᴰ·not-nil}
-use Prim.Native.Nat.{ℕ, max, _<_, _≤_}
+use mathlib.Core.List.{List, [], _∷_, List·Memᴰ·head, List·Memᴰ·tail, List·Memᴰ·not-nil}
+use Prim.Native.Nat.{ℕ, _<_, _≤_}
 use native.Mathlib.Omega.{arith}
 use borrow.Author.Tests.{leb-true, ltb-true, le-leb}
 use Rattle.labels.specs.declared.Label.{Label}
 use Rattle.labels.specs.declared.Trust.{Trust}
-use Rattle.labels.specs.Labels.{lower, reaches, isAbove, isHigh, isMet}
+use Rattle.labels.specs.Labels.{reaches, isAbove, isHigh, isMet}
 use Rattle.book.specs.Book.{Book}
 use Rattle.typing.specs.Shapes as T
 use Rattle.machine.specs.declared.Event.{Event}
-use Rattle.machine.specs.Histories.{History, hands, lists, lowest, source, sources}
+use Rattle.machine.specs.Histories.{History, lists, lowest, source, sources}
 use Rattle.machine.specs.States.{Cell, Job, State}
 use Rattle.machine.specs.Events.{trustOf, launchLabel, freshState, stateAfter}
 use Rattle.machine.specs.Images.{cellImage, jobImage, stateImage}
-use Rattle.machine.specs.Records.{CellRecord, JobRecord, cellRecord, jobRecord, cellRecords, jobRecords}
+use Rattle.machine.specs.Records.{cellRecord, jobRecord}
 use Rattle.machine.proofs.Sources.{source-law}
-use Rattle.integrity.specs.Integrity.{_isIn_, Sentences, Recorded, Kept}
+use Rattle.integrity.specs.Integrity.{_isIn_, Kept}
 use Rattle.integrity.proofs.Trees.{cell, tree-cell}
-use Rattle.integrity.proofs.Entries.{All}
+use Rattle.integrity.proofs.Entries.{map-all, map-from}
 use Rattle.integrity.proofs.Numbers.{lower-number, normal-high}
 use Rattle.integrity.proofs.Invariant.{shapeOf, treeOf, Good, CellOk, JobOk, Invariant}
 use Rattle.integrity.proofs.Runs.{state-after-ok}
@@ -33,17 +33,6 @@ lowest-all n l [] x h (List·Memᴰ·head e) = rw e h
 lowest-all n l [] x h (List·Memᴰ·tail m) = absurd (List·Memᴰ·not-nil m)
 lowest-all n l (m ∷ ms) x h (List·Memᴰ·head e) = let y = lower-number l (lowest m ms) in rw e (omega arith)
 lowest-all n l (m ∷ ms) x h (List·Memᴰ·tail i) = let y = lower-number l (lowest m ms) in lowest-all n m ms x (omega arith) i
-
-map-all : {A B : Type 0} (f : A → B) (P : B → Type 0) (l : List A) (a : A) → All P (map f l) → a isIn l → P (f a)
-map-all f P [] a h m = absurd (List·Memᴰ·not-nil m)
-map-all f P (x ∷ xs) a h (List·Memᴰ·head e) = rw e (h .0)
-map-all f P (x ∷ xs) a h (List·Memᴰ·tail m) = map-all f P xs a (h .1) m
-
--- an entry of a mapped list is the image of one
-map-from : {A B : Type 0} (f : A → B) (P : B → Type 0) → (l : List A) → ((a : A) → a isIn l → P (f a)) → (b : B) → b isIn map f l → P b
-map-from f P [] g b m = absurd (List·Memᴰ·not-nil m)
-map-from f P (x ∷ xs) g b (List·Memᴰ·head e) = rw e (g x (List·Memᴰ·head refl))
-map-from f P (x ∷ xs) g b (List·Memᴰ·tail m) = map-from f P xs (λ a i. g a (List·Memᴰ·tail i)) b m
 
 module _ (K : Book) (a : Accepted K) (size : ℕ) (l : Label) (p : reaches (launchLabel K) l ≡ true) (es : List Event) where
   abbrev end : State History

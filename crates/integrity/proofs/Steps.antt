@@ -2,11 +2,10 @@
 --     low-step        at P at or below C
 --     step-ok         at every P
 -- Assumes nothing.
-use mathlib.Core.Path.{_≡_, refl}
-use mathlib.Core.Bool.{Bool, true, false, not}
-use Prim.Native.Nat.{ℕ, max, _<_, _≤_}
+use mathlib.Core.Path.{_≡_}
+use mathlib.Core.Bool.{true, not}
+use Prim.Native.Nat.{ℕ, _<_, _≤_}
 use native.Mathlib.Omega.{arith}
-use lib.Dec.{ltb}
 use borrow.Author.Tests.{not-true, leb-true, leb-false, ltb-false}
 use Rattle.labels.specs.declared.Label.{Label}
 use Rattle.book.specs.declared.Step.{Step}
@@ -18,8 +17,8 @@ use Rattle.typing.specs.Rules.{passes, isLow, lowStep, highStep, step}
 use Rattle.typing.specs.Asked.{Sound}
 use Rattle.machine.specs.Histories.{sources}
 use Rattle.machine.specs.States.{Job, State}
-use Rattle.machine.specs.Acts.{Effect, keep, making, writing, relabelling, executing}
-use Rattle.machine.specs.Steps.{register, through, gets, adding, reading, turnOf}
+use Rattle.machine.specs.Acts.{Effect, keep}
+use Rattle.machine.specs.Steps.{register, through, adding, reading, turnOf}
 use Rattle.integrity.proofs.Invariant.{shapeOf, Match, Invariant}
 use Rattle.integrity.proofs.Effects.{EffectOk, keep-ok}
 use Rattle.integrity.proofs.Walks.{StepOk, need-ok, either-ok, entry-ok, plain-ok, cell-ok}
@@ -49,8 +48,8 @@ module _ (K : Book) (size : ℕ) (s : State Label) (v : Invariant K s) (ok : Sou
   low-step lo (New r i a) =
       need-ok K (λ e. low-ok K s j t m r _ _ _ (low-making K size s v (j .label) (j .history) (low-label lo) i (register sources j a) (low-trust i e)))
   low-step lo (Read r w) = cell-ok K (λ k ek. entry-ok K (λ c ec. low-ok K s j t m r _ _ keep keep-ok))
-  low-step lo (Write w a) = through-ok w _ (λ k. low-writing K size s v (j .label) (j .history) (low-label lo) k (register sources j a))
-  low-step lo (Relabel w o) = through-ok w _ (λ k. low-relabelling K size s v (j .label) (j .history) (low-label lo) k o)
+  low-step lo (Write w a) = through-ok w _ (λ k. low-writing K s v (j .label) (j .history) (low-label lo) k (register sources j a))
+  low-step lo (Relabel w o) = through-ok w _ (λ k. low-relabelling K s v (j .label) (j .history) (low-label lo) k o)
   low-step lo (Lower q) = lower-ok K size s v ok pass j t m q
   low-step lo (Start b) = moves-ok K s j t m _ (low-starting K size s v (j .label) (j .history) (low-label lo) pass b)
   low-step lo (Exec w) = through-ok w _ (λ k. low-executing K size s v (j .label) (j .history) (low-label lo) pass k)

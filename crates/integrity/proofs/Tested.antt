@@ -5,7 +5,6 @@
 use mathlib.Core.Path.{_≡_, refl}
 use mathlib.Core.Bool.{Bool, true, false}
 use mathlib.Core.List.{List, [], _∷_, List·Memᴰ·head, List·Memᴰ·tail}
-use Rattle.labels.specs.declared.Label.{Label}
 use Rattle.labels.specs.Labels.{reaches, isAbove, isMet, isHigh}
 use Rattle.book.specs.Control.{if_then_else_, both}
 use Rattle.book.specs.Book.{Book}
@@ -15,6 +14,7 @@ use Rattle.machine.specs.States.{Cell, Job, State}
 use Rattle.machine.specs.Events.{trustOf}
 use Rattle.integrity.specs.Integrity.{_isIn_, Sentences}
 use Rattle.integrity.specs.Weakened.{every}
+use Rattle.integrity.proofs.Booleans.{both-true}
 
 module _ (K : Book) where
   unfoldable pub cellHolds : Cell History → Bool
@@ -33,10 +33,6 @@ module _ (K : Book) where
   unfolding every both
   all-every f [] h = refl
   all-every f (x ∷ xs) h = simp (every, h x (List·Memᴰ·head refl)) (all-every f xs (λ a i. h a (List·Memᴰ·tail i)))
-
-  both-true : (a b : Bool) → a ≡ true → b ≡ true → both a b ≡ true
-  unfolding both
-  both-true a b p q = simp p q
 
   cell-tested : (s : State History) → Sentences K s → (c : Cell History) → c isIn s .cells → cellHolds c ≡ true
   unfolding cellHolds

@@ -4,8 +4,8 @@
 --     alike-tree                                   likeness
 --     tree-trust                                   the trust of a cell shape
 -- Assumes nothing.
-use Prim.Native.Nat.{ℕ, zero, suc, _<_, _≤_}
-use mathlib.Core.Path.{_≡_, refl, sym, ap, _∙_}
+use Prim.Native.Nat.{ℕ, zero, suc, _<_}
+use mathlib.Core.Path.{_≡_, refl, ap}
 use mathlib.Core.Bool.{Bool, true, false, not}
 use native.Mathlib.Omega.{arith}
 use lib.Dec.{eqb}
@@ -14,7 +14,7 @@ use Rattle.labels.specs.declared.Label.{Label}
 use Rattle.book.specs.declared.Shape.{Shape}
 use Rattle.book.specs.Control.{both, either}
 use Rattle.book.proofs.Tests.{clash, both-left, both-right, either-false}
-use Rattle.typing.specs.Shapes.{isCode, isCell, isPlain, boundOf, contentOf, trustOf, alikeIn, alike}
+use Rattle.typing.specs.Shapes.{isCode, isCell, boundOf, contentOf, trustOf, alikeIn, alike}
 use Rattle.typing.specs.Asked.{Sound}
 
 -- plain; code of a bound; a cell of a content and a normalised trust

@@ -6,7 +6,6 @@ use Prim.Native.Nat.{ℕ, zero, suc}
 use mathlib.Core.Path.{_≡_, refl}
 use mathlib.Core.Bool.{Bool, true, false}
 use mathlib.Core.List.{List, [], _∷_}
-use Rattle.labels.specs.declared.Label.{Label}
 use Rattle.labels.specs.Labels.{label, trust, lower, normal, capped}
 use Rattle.book.specs.declared.Shape.{Shape}
 use Rattle.book.specs.declared.Value.{Value}
@@ -27,8 +26,7 @@ use Rattle.machine.specs.Control.{given, onPlain, onCell, onCode}
 use Rattle.machine.specs.Acts.{execLabel, writing, relabelling, making, starting, executing}
 use Rattle.machine.specs.Steps.{sum, adding, reading, lowering, turnOf}
 use Rattle.machine.specs.Events.{landed, turnLanded, outcomeOf, stateAfter}
-use Rattle.integrity.specs.Weakened.{rulesOf, stepBy, walkBy, every, acceptedBy, anyBound, alikeAnyTrust, anyTrust, Needed, NeededOutside, EachNeeded}
-use Rattle.integrity.specs.Weakened.{execUntrusted, writeThroughLow, relabelBelow, newAtBound, lowerStuckLow, readAtP, fittedBy, letIn}
+use Rattle.integrity.specs.Weakened.{rulesOf, stepBy, walkBy, every, acceptedBy, anyBound, alikeAnyTrust, anyTrust, EachNeeded}
 use Rattle.integrity.proofs.Tested.{cellHolds, jobHolds, sentencesHold, breaks}
 
 abbrev plain : Shape

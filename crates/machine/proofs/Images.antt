@@ -2,19 +2,18 @@
 --     images       the law, for any image of histories
 -- Assumes nothing.
 use mathlib.Core.Path.{_≡_, refl, ap, ap₂, _∙_}
-use mathlib.Core.List.{List, [], _∷_, _++_, map}
+use mathlib.Core.List.{List, [], _∷_, map}
 use Prim.Native.Nat.{ℕ}
-use lib.ListN.{length, length-map, List·getD-map}
+use lib.ListN.{length-map, List·getD-map}
 use Rattle.labels.specs.declared.Label.{Label}
 use Rattle.book.specs.declared.Declared.{Declared}
 use Rattle.book.specs.declared.Step.{Step}
 use Rattle.book.specs.declared.Step.the-variants.{Put, Name, Code, Add, New, Read, Write, Relabel, Lower, Start, Exec}
 use Rattle.book.specs.Book.{Book}
-use Rattle.typing.specs.Shapes.{onSome}
 use Rattle.machine.specs.declared.Event.{Event}
 use Rattle.machine.specs.declared.Event.the-variants.{StepOf, WriteBy, RelabelBy, NewBy, ExecBy, StartBy}
 use Rattle.machine.specs.Histories.{Histories}
-use Rattle.machine.specs.States.{Traced, Cell, Job, State}
+use Rattle.machine.specs.States.{Traced, Job, State}
 use Rattle.machine.specs.Acts.{Effect, blocked, keep, store, create, launch, zeroWith, writing, relabelling, making, starting, executing}
 use Rattle.machine.specs.Steps.{Turn, register, adding, reading, lowering, turnOf}
 use Rattle.machine.specs.Events.{Outcome, landed, turnLanded, outcomeOf, declared, freshState, stateAfter, answers}
@@ -39,15 +38,16 @@ module _ (A B : Histories) (i : Image A B) where
   register-image j r = List·getD-map (tracedImage of) (j .registers) r (zeroWith A (j .history))
 
   -- the acts
-  module _ (size : ℕ) (s : State (A .H)) (l : Label) (h : A .H) where
-    writing-image : (k : ℕ) (v : Traced (A .H)) → effectImage of (writing A size s l h k v) ≡ writing B size (stateImage of s) l (of h) k (tracedImage of v)
+  module _ (s : State (A .H)) (l : Label) (h : A .H) where
+    writing-image : (k : ℕ) (v : Traced (A .H)) → effectImage of (writing A s l h k v) ≡ writing B (stateImage of s) l (of h) k (tracedImage of v)
     unfolding writing effectImage
     writing-image k v = simp (getElem?-map (cellImage of), onSome-entry, onSome-map (effectImage of), given-map (effectImage of), of-join)
 
-    relabelling-image : (k : ℕ) (o : Label) → effectImage of (relabelling A size s l h k o) ≡ relabelling B size (stateImage of s) l (of h) k o
+    relabelling-image : (k : ℕ) (o : Label) → effectImage of (relabelling A s l h k o) ≡ relabelling B (stateImage of s) l (of h) k o
     unfolding relabelling effectImage
     relabelling-image k o = simp (getElem?-map (cellImage of), onSome-entry, onSome-map (effectImage of), given-map (effectImage of))
 
+  module _ (size : ℕ) (s : State (A .H)) (l : Label) (h : A .H) where
     making-image : (k : ℕ) (v : Traced (A .H)) → effectImage of (making A size s l h k v) ≡ making B size (stateImage of s) l (of h) k (tracedImage of v)
     unfolding making effectImage
     making-image k v = simp (length-map, given-map (effectImage of), of-join)

@@ -53,8 +53,8 @@ module _ (A : Histories) where
   abbrev pub freshJob : ℕ → Label → H → Job H
   freshJob b l h = record { block = b; position = 0; label = l; registers = replicate 8 (zeroWith h); history = h }
 
-  -- in tables of this size, by an actor of label l and history h
-  module _ (size : ℕ) (s : State H) (l : Label) (h : H) where
+  -- by an actor of label l and history h
+  module _ (s : State H) (l : Label) (h : H) where
     -- "write: blocked unless w is a cell with label at most the job's; stores (an act)."
     unfoldable pub writing : ℕ → Traced H → Effect H
     writing k v =
@@ -67,6 +67,8 @@ module _ (A : Histories) where
         onSome (getElem? (s .cells) k) blocked
         (λ c. unless (both (reaches l (c .label)) (reaches l o)) (store k (record { shape = c .shape; label = o; content = c .content })))
 
+  -- and in tables of this size
+  module _ (size : ℕ) (s : State H) (l : Label) (h : H) where
     -- "new: blocked when 64 cells exist; a cell with the job's label, the shape, the content (an act)"
     unfoldable pub making : ℕ → Traced H → Effect H
     making i v = unless (isFree size (s .cells)) (create (record { shape = i; label = l; content = acted h v }))

@@ -21,7 +21,7 @@ use Rattle.machine.specs.declared.Event.the-variants.{StepOf, WriteBy, R
 use Rattle.typing.specs.Shapes.{onSome}
 use Rattle.machine.specs.Control.{given}
 use Rattle.machine.specs.Histories.{Histories}
-use Rattle.machine.specs.States.{Traced, Cell, Job, State}
+use Rattle.machine.specs.States.{Traced, Cell, State}
 use Rattle.machine.specs.Acts.{Effect, blocked, keep, store, create, launch, freshJob, writing, relabelling, making, starting, executing}
 use Rattle.machine.specs.Steps.{Turn, turnOf}
 
@@ -75,13 +75,13 @@ isLowCellShape K i = both (hasCellShape K i) (not (isHigh (trustOf K i) (K .c)))
 abbrev pub isBlock : Book → ℕ → Bool
 isBlock K b = ltb b (length (K .blocks))
 
-module _ {H : Type 0} (K : Book) (s : State H) where
-  abbrev pub isCell : ℕ → Bool
-  isCell k = ltb k (length (s .cells))
+module _ {H : Type 0} where
+  abbrev pub isCell : State H → ℕ → Bool
+  isCell s k = ltb k (length (s .cells))
 
   -- a value of kind k and number n
-  abbrev pub isValue : ℕ → ℕ → Bool
-  isValue k n = both (leb k 2) (valueNamed (length (s .cells)) (length (K .blocks)) (valueOf k n))
+  abbrev pub isValue : Book → State H → ℕ → ℕ → Bool
+  isValue K s k n = both (leb k 2) (valueNamed (length (s .cells)) (length (K .blocks)) (valueOf k n))
 
 -- an event's answer, and the state after it
 pub record Outcome (H : Type 0) : Type 0 where
@@ -116,6 +116,10 @@ module _ {H : Type 0} where
 module _ (A : Histories) where
   open Histories A using (H, one)
 
+  -- "their history is Q, which is also the history of the value they bring"
+  abbrev pub brought : Label → ℕ → ℕ → Traced H
+  brought q k n = record { value = valueOf k n; history = one q }
+
   -- "its cells are the declared ones with their declared labels and values". "Declared values have history 15."
   abbrev pub declared : Declared → Cell H
   declared d = record { shape = d .shape; label = d .label; content = record { value = d .value; history = one topLabel } }
@@ -128,22 +132,18 @@ module _ (A : Histories) where
 module _ (A : Histories) (size : ℕ) (K : Book) where
   open Histories A using (H, one, join)
 
-  -- "their history is Q, which is also the history of the value they bring"
-  abbrev pub brought : Label → ℕ → ℕ → Traced H
-  brought q k n = record { value = valueOf k n; history = one q }
-
   unfoldable pub outcomeOf : State H → Event → Outcome H
   outcomeOf s (StepOf i) =
       onSome (getElem? (s .jobs) i) (unchanged noSuch s)
       (λ j. onSome (getElem? (blockOf K (j .block) .steps) (j .position)) (unchanged finished s)
       (λ p. turnLanded s i (turnOf A size s j p)))
   outcomeOf s (WriteBy q k v n) =
-      ifSuch s (both (isOutsider K q) (both (isCell K s k) (isValue K s v n))) (landed s s (writing A size s q (one q) k (brought q v n)))
+      ifSuch s (both (isOutsider K q) (both (isCell s k) (isValue K s v n))) (landed s s (writing A s q (one q) k (brought A q v n)))
   outcomeOf s (RelabelBy q k o) =
-      ifSuch s (both (isOutsider K q) (both (isCell K s k) (isLabel o))) (landed s s (relabelling A size s q (one q) k o))
+      ifSuch s (both (isOutsider K q) (both (isCell s k) (isLabel o))) (landed s s (relabelling A s q (one q) k o))
   outcomeOf s (NewBy q i v n) =
-      ifSuch s (both (isOutsider K q) (both (isLowCellShape K i) (isValue K s v n))) (landed s s (making A size s q (one q) i (brought q v n)))
-  outcomeOf s (ExecBy q k) = ifSuch s (both (isOutsider K q) (isCell K s k)) (landed s s (executing A size s q (one q) k))
+      ifSuch s (both (isOutsider K q) (both (isLowCellShape K i) (isValue K s v n))) (landed s s (making A size s q (one q) i (brought A q v n)))
+  outcomeOf s (ExecBy q k) = ifSuch s (both (isOutsider K q) (isCell s k)) (landed s s (executing A size s q (one q) k))
   outcomeOf s (StartBy q b) = ifSuch s (both (isOutsider K q) (isBlock K b)) (landed s s (starting A size s q (one q) b))
 
   -- the state after a list of events, one after the other

@@ -10,7 +10,7 @@ use mathlib.Core.List.{List, map}
 use Rattle.labels.specs.declared.Label.{Label}
 use Rattle.book.specs.Book.{Book}
 use Rattle.machine.specs.declared.Event.{Event}
-use Rattle.machine.specs.Histories.{Histories, History, lists, source, sources}
+use Rattle.machine.specs.Histories.{Histories, lists, source, sources}
 use Rattle.machine.specs.States.{Traced, Cell, Job, State}
 use Rattle.machine.specs.Events.{Outcome, outcomeOf, freshState, stateAfter, answers}
 

@@ -14,7 +14,7 @@ use Rattle.book.specs.declared.Step.the-variants.{Put, Name, Code, Add, New, Re
 use Rattle.typing.specs.Shapes.{onSome}
 use Rattle.machine.specs.Control.{given, onPlain, onCell}
 use Rattle.machine.specs.Histories.{Histories}
-use Rattle.machine.specs.States.{Traced, Cell, Job, State}
+use Rattle.machine.specs.States.{Traced, Job, State}
 use Rattle.machine.specs.Acts.{Effect, blocked, keep, acted, zeroWith, writing, relabelling, making, starting, executing}
 
 -- Where the effect is blocked, the job is left as it was: "\"Blocked\" changes nothing; the job may be stepped again later."
@@ -96,8 +96,8 @@ module _ (A : Histories) where
     turnOf (New r i a) =
         turn (gets j r (CellName (length (s .cells))) (j .history)) (making A size s (j .label) (j .history) i (register j a))
     turnOf (Read r w) = reading s j r w
-    turnOf (Write w a) = through j w (λ k. writing A size s (j .label) (j .history) k (register j a))
-    turnOf (Relabel w o) = through j w (λ k. relabelling A size s (j .label) (j .history) k o)
+    turnOf (Write w a) = through j w (λ k. writing A s (j .label) (j .history) k (register j a))
+    turnOf (Relabel w o) = through j w (λ k. relabelling A s (j .label) (j .history) k o)
     turnOf (Lower q) = lowering j q
     turnOf (Start b) = turn (moved j) (starting A size s (j .label) (j .history) b)
     turnOf (Exec w) = through j w (executing A size s (j .label) (j .history))
