@@ -5,21 +5,21 @@
 use Prim.Native.Nat.{ℕ, zero, suc}
 use mathlib.Core.Path.{_≡_, refl}
 use mathlib.Core.Bool.{Bool, true, false}
-use mathlib.Core.List.{List, [], _∷_}
-use Rattle.labels.specs.Labels.{label, trust, lower, normal, capped}
-use Rattle.book.specs.declared.Shape.{Shape}
-use Rattle.book.specs.declared.Value.{Value}
-use Rattle.book.specs.declared.Value.the-variants.{Plain, CellName, CodeName}
-use Rattle.book.specs.declared.Declared.{Declared}
+use mathlib.Core.List.{List, [], _∷_, _++_}
+use Rattle.labels.specs.Labels.{label, lower, normal, capped}
 use Rattle.book.specs.declared.Step.{Step}
 use Rattle.book.specs.declared.Step.the-variants.{Put, Name, Code, Add, New, Read, Write, Relabel, Lower, Start, Exec}
-use Rattle.book.specs.Control.{if_then_else_, both, either}
-use Rattle.book.specs.Book.{Book, Block, valueOf}
-use Rattle.book.specs.Refusals.{valueNamed}
+use Rattle.book.specs.Control.{if_then_else_, both, either, those, while, sweep}
+use Rattle.book.specs.Kinds.{span, limits, group}
+use Rattle.book.specs.Records.{numberAt, cut, recordsIn, recordsFrom}
+use Rattle.book.specs.Book.{groupOf, stepsFrom, shapeAt, valueOf, declaredAt, stepAt, blockAt, parse}
+use Rattle.book.specs.Refusals.{cutFault, inOrder, misplaced, orderFault, counted, tooMany, beyond, countFault, above, outOfRange, rangeFault, valueNamed, cellNamed, stepNamed, dangling, dangles, nameFault, orRefuse, unreadable}
+use Rattle.book.specs.Outline.{stepCount}
 use Rattle.typing.specs.declared.State.{State}
 use Rattle.typing.specs.Shapes.{View, viewOf, onSome, alikeIn, alike, knownOf, fits, knownValue, declaredOk}
-use Rattle.typing.specs.Rules.{need, free, isPlainly, fresh, known, addable, holds, lowStep, highStep, step}
+use Rattle.typing.specs.Rules.{need, free, isPlainly, fresh, known, addable, holds, lowStep, highStep, step, fault}
 use Rattle.typing.specs.Rules as R
+use Rattle.typing.specs.Verdict.{cellFault, orThen, blockFault, stepFault, orRefused, typed, verdictOf}
 use Rattle.machine.specs.declared.Event.{Event}
 use Rattle.machine.specs.declared.Event.the-variants.{StepOf, WriteBy, RelabelBy, StartBy}
 use Rattle.machine.specs.Control.{given, onPlain, onCell, onCode}
@@ -29,23 +29,63 @@ use Rattle.machine.specs.Events.{landed, turnLanded, outcomeOf, stateAfter}
 use Rattle.integrity.specs.Weakened.{rulesOf, stepBy, walkBy, every, acceptedBy, anyBound, alikeAnyTrust, anyTrust, EachNeeded}
 use Rattle.integrity.proofs.Tested.{cellHolds, jobHolds, sentencesHold, breaks}
 
-abbrev plain : Shape
-plain = record { kind = 16; bound = label 0; content = 0; trust = trust 0 }
+-- records, as bytes; numbers are below 256
+abbrev plain : List ℕ
+plain = 0x10 ∷ []
 
-abbrev code : ℕ → Shape
-code b = record { kind = 17; bound = label b; content = 0; trust = trust 0 }
+abbrev code : ℕ → List ℕ
+code bound = 0x11 ∷ bound ∷ []
 
-abbrev cell : ℕ → ℕ → Shape
-cell i t = record { kind = 18; bound = label 0; content = i; trust = trust t }
+abbrev cell : ℕ → ℕ → List ℕ
+cell content trust = 0x12 ∷ content ∷ trust ∷ []
 
-abbrev declare : ℕ → ℕ → Value → Declared
-declare i l v = record { shape = i; label = label l; value = v }
+-- value kinds
+abbrev number : ℕ
+number = 0
 
-abbrev block : ℕ → List Step → Block
-block b ps = record { bound = label b; steps = ps }
+abbrev naming : ℕ
+naming = 1
 
-abbrev book : List Shape → List Declared → List Block → Book
-book shapes cells blocks = record { c = label 3; shapes = shapes; cells = cells; blocks = blocks }
+abbrev coding : ℕ
+coding = 2
+
+abbrev declare : ℕ → ℕ → ℕ → ℕ → List ℕ
+declare shape label kind n = 0x20 ∷ shape ∷ label ∷ kind ∷ n ∷ 0 ∷ 0 ∷ 0 ∷ []
+
+abbrev block : ℕ → List ℕ
+block bound = 0x30 ∷ bound ∷ []
+
+abbrev put : ℕ → ℕ → List ℕ
+put r n = 0x40 ∷ r ∷ n ∷ 0 ∷ 0 ∷ 0 ∷ []
+
+abbrev name : ℕ → ℕ → List ℕ
+name r k = 0x41 ∷ r ∷ k ∷ []
+
+abbrev new : ℕ → ℕ → ℕ → List ℕ
+new r i a = 0x44 ∷ r ∷ i ∷ a ∷ []
+
+abbrev read : ℕ → ℕ → List ℕ
+read r w = 0x45 ∷ r ∷ w ∷ []
+
+abbrev write : ℕ → ℕ → List ℕ
+write w a = 0x46 ∷ w ∷ a ∷ []
+
+abbrev relabel : ℕ → ℕ → List ℕ
+relabel w o = 0x47 ∷ w ∷ o ∷ []
+
+abbrev lowerTo : ℕ → List ℕ
+lowerTo q = 0x48 ∷ q ∷ []
+
+abbrev exec : ℕ → List ℕ
+exec w = 0x4A ∷ w ∷ []
+
+abbrev joined : List (List ℕ) → List ℕ
+joined [] = []
+joined (r ∷ rs) = r ++ joined rs
+
+-- a book with C 3
+abbrev book : List (List ℕ) → List ℕ
+book rs = 0x01 ∷ 0x03 ∷ joined rs
 
 -- n steps of job i
 abbrev steps : ℕ → ℕ → List Event → List Event
@@ -72,18 +112,20 @@ step-by B t (Start b) = refl
 step-by B t (Exec w) = refl
 
 pub each-needed : EachNeeded
-unfolding lower normal capped both either valueOf valueNamed viewOf onSome alikeIn alike knownOf fits knownValue declaredOk need free R.onCell R.onCode isPlainly fresh known R.lowering addable holds lowStep highStep step given onPlain onCell onCode execLabel writing relabelling making starting executing sum adding reading lowering turnOf landed turnLanded outcomeOf stateAfter stepBy walkBy every acceptedBy anyBound alikeAnyTrust anyTrust cellHolds jobHolds sentencesHold
+unfolding lower normal capped both either valueOf valueNamed viewOf onSome alikeIn alike knownOf fits knownValue declaredOk need free R.onCell R.onCode isPlainly fresh known R.lowering addable holds lowStep highStep step given onPlain onCell onCode execLabel writing relabelling making starting executing sum adding reading lowering turnOf landed turnLanded outcomeOf stateAfter stepBy walkBy every acceptedBy anyBound alikeAnyTrust anyTrust cellHolds jobHolds sentencesHold those while sweep span limits group numberAt cut recordsIn recordsFrom groupOf stepsFrom shapeAt declaredAt stepAt blockAt parse cutFault inOrder misplaced orderFault counted tooMany beyond countFault above outOfRange rangeFault cellNamed stepNamed dangling dangles nameFault orRefuse unreadable stepCount fault cellFault orThen blockFault stepFault orRefused typed verdictOf
 each-needed =
     record {
       -- An outsider writes block 1's code into cell 0. Job 0, at 12, copies it into cell 1, of low trust and label 12, and runs that: a job
       -- at 12 whose history has 3.
       exec-trust =
           record {
-            book =
-                book (code 12 ∷ cell 0 0 ∷ [])
-                (declare 1 0 (CodeName 1) ∷ declare 1 12 (CodeName 1) ∷ [])
-                (block 12 (Name 0 0 ∷ Name 1 1 ∷ Read 2 0 ∷ Write 1 2 ∷ Exec 1 ∷ []) ∷ block 12 [] ∷ []);
+            bytes =
+                book (code 12 ∷ cell 0 0 ∷ declare 1 0 coding 1 ∷ declare 1 12 coding 1
+                ∷ block 12 ∷ name 0 0 ∷ name 1 1 ∷ read 2 0 ∷ write 1 2 ∷ exec 1 ∷ block 12 ∷ []);
             events = WriteBy (label 3) 0 2 1 ∷ steps 5 0 [];
+            number = 8;
+            place = 37;
+            readable = refl;
             accepted = refl;
             refused = refl;
             broken = breaks _ _ refl;
@@ -92,11 +134,13 @@ each-needed =
       -- it points: cell 0 holds a value whose history has 3.
       write-effect =
           record {
-            book =
-                book (plain ∷ cell 0 9 ∷ cell 0 0 ∷ cell 2 0 ∷ [])
-                (declare 1 9 (Plain 5) ∷ declare 2 0 (Plain 0) ∷ declare 3 0 (CellName 1) ∷ [])
-                (block 12 (Name 0 2 ∷ Read 1 0 ∷ Write 1 1 ∷ []) ∷ []);
+            bytes =
+                book (plain ∷ cell 0 9 ∷ cell 0 0 ∷ cell 2 0
+                ∷ declare 1 9 number 5 ∷ declare 2 0 number 0 ∷ declare 3 0 naming 1 ∷ block 12 ∷ name 0 2 ∷ read 1 0 ∷ write 1 1 ∷ []);
             events = WriteBy (label 3) 2 1 0 ∷ steps 3 0 [];
+            number = 8;
+            place = 44;
+            readable = refl;
             accepted = refl;
             refused = refl;
             broken = breaks _ _ refl;
@@ -104,8 +148,12 @@ each-needed =
       -- Job 0 gives cell 0, of trust 9, the label 8 (A6).
       relabel-label =
           record {
-            book = book (plain ∷ cell 0 9 ∷ []) (declare 1 9 (Plain 5) ∷ []) (block 12 (Name 0 0 ∷ Relabel 0 (label 8) ∷ []) ∷ []);
+            bytes =
+                book (plain ∷ cell 0 9 ∷ declare 1 9 number 5 ∷ block 12 ∷ name 0 0 ∷ relabel 0 8 ∷ []);
             events = steps 2 0 [];
+            number = 8;
+            place = 19;
+            readable = refl;
             accepted = refl;
             refused = refl;
             broken = breaks _ _ refl;
@@ -113,8 +161,12 @@ each-needed =
       -- An outsider starts block 0 at 3: its new makes a cell of trust 9 and label 3 (A9).
       new-lowered =
           record {
-            book = book (plain ∷ cell 0 9 ∷ []) [] (block 12 (Put 1 7 ∷ New 2 1 1 ∷ []) ∷ []);
+            bytes =
+                book (plain ∷ cell 0 9 ∷ block 12 ∷ put 1 7 ∷ new 2 1 1 ∷ []);
             events = StartBy (label 3) 0 ∷ steps 2 1 [];
+            number = 8;
+            place = 14;
+            readable = refl;
             accepted = refl;
             refused = refl;
             broken = breaks _ _ refl;
@@ -122,8 +174,12 @@ each-needed =
       -- The block's bound is 2. An outsider starts it at 3, where lower 3 is done; then new makes a cell of trust 9 and label 3 (A15).
       lower-low =
           record {
-            book = book (plain ∷ cell 0 9 ∷ []) [] (block 2 (Put 1 7 ∷ Lower (label 3) ∷ New 2 1 1 ∷ []) ∷ []);
+            bytes =
+                book (plain ∷ cell 0 9 ∷ block 2 ∷ put 1 7 ∷ lowerTo 3 ∷ new 2 1 1 ∷ []);
             events = StartBy (label 3) 0 ∷ steps 3 1 [];
+            number = 8;
+            place = 16;
+            readable = refl;
             accepted = refl;
             refused = refl;
             broken = breaks _ _ refl;
@@ -131,11 +187,13 @@ each-needed =
       -- An outsider writes 7 into cell 1, of low trust. Job 0 reads it, and writes it into cell 0, of trust 9.
       read-trust =
           record {
-            book =
-                book (plain ∷ cell 0 9 ∷ cell 0 0 ∷ [])
-                (declare 1 9 (Plain 5) ∷ declare 2 0 (Plain 0) ∷ [])
-                (block 12 (Name 0 1 ∷ Read 1 0 ∷ Name 2 0 ∷ Write 2 1 ∷ []) ∷ []);
+            bytes =
+                book (plain ∷ cell 0 9 ∷ cell 0 0 ∷ declare 1 9 number 5 ∷ declare 2 0 number 0
+                ∷ block 12 ∷ name 0 1 ∷ read 1 0 ∷ name 2 0 ∷ write 2 1 ∷ []);
             events = WriteBy (label 3) 1 0 7 ∷ steps 4 0 [];
+            number = 8;
+            place = 36;
+            readable = refl;
             accepted = refl;
             refused = refl;
             broken = breaks _ _ refl;
@@ -144,11 +202,13 @@ each-needed =
       -- the label 0.
       code-bound =
           record {
-            book =
-                book (code 12 ∷ cell 0 12 ∷ plain ∷ cell 2 9 ∷ [])
-                (declare 1 12 (CodeName 1) ∷ declare 3 9 (Plain 5) ∷ [])
-                (block 12 (Name 0 0 ∷ Exec 0 ∷ []) ∷ block 3 (Name 0 1 ∷ Relabel 0 (label 0) ∷ []) ∷ []);
+            bytes =
+                book (code 12 ∷ cell 0 12 ∷ plain ∷ cell 2 9 ∷ declare 1 12 coding 1 ∷ declare 3 9 number 5
+                ∷ block 12 ∷ name 0 0 ∷ exec 0 ∷ block 3 ∷ name 0 1 ∷ relabel 0 0 ∷ []);
             events = steps 2 0 (steps 2 1 []);
+            number = 7;
+            place = 11;
+            readable = refl;
             accepted = refl;
             refused = refl;
             broken = breaks _ _ refl;
@@ -157,11 +217,13 @@ each-needed =
       -- as of trust 9, and writes it into cell 1, of trust 9.
       like-trust =
           record {
-            book =
-                book (plain ∷ cell 0 0 ∷ cell 0 9 ∷ cell 2 9 ∷ [])
-                (declare 1 0 (Plain 0) ∷ declare 2 9 (Plain 5) ∷ declare 3 9 (CellName 0) ∷ [])
-                (block 12 (Name 0 2 ∷ Read 1 0 ∷ Read 2 1 ∷ Name 3 1 ∷ Write 3 2 ∷ []) ∷ []);
+            bytes =
+                book (plain ∷ cell 0 0 ∷ cell 0 9 ∷ cell 2 9 ∷ declare 1 0 number 0 ∷ declare 2 9 number 5 ∷ declare 3 9 naming 0
+                ∷ block 12 ∷ name 0 2 ∷ read 1 0 ∷ read 2 1 ∷ name 3 1 ∷ write 3 2 ∷ []);
             events = WriteBy (label 3) 0 0 7 ∷ steps 5 0 [];
+            number = 7;
+            place = 28;
+            readable = refl;
             accepted = refl;
             refused = refl;
             broken = breaks _ _ refl;
@@ -169,7 +231,7 @@ each-needed =
       -- An outsider at 4 gives cell 0, of trust and label 4, the label 0.
       outsider-low =
           record {
-            book = book (plain ∷ cell 0 4 ∷ []) (declare 1 4 (Plain 5) ∷ []) (block 12 [] ∷ []);
+            bytes = book (plain ∷ cell 0 4 ∷ declare 1 4 number 5 ∷ block 12 ∷ []);
             events = RelabelBy (label 4) 0 (label 0) ∷ [];
             accepted = refl;
             broken = breaks _ _ refl;

@@ -1,5 +1,5 @@
--- The rules, each weakened in one place, and what shows that the place is needed: a book that the weakened rules accept, and events after
--- which a sentence is broken. So the theorem would be false of them. Nothing else is built on these definitions.
+-- The rules, each weakened in one place, and what shows that the place is needed: a readable book that the weakened rules accept, and events
+-- after which a sentence is broken. So the theorem would be false of them. Nothing else is built on these definitions.
 --     Rules, rulesOf, acceptedBy      the rules as data; acceptance by them
 --     execUntrusted, ..               the weakened rules
 --     Needed                          a book and events that break a sentence
@@ -15,12 +15,16 @@ use Rattle.book.specs.declared.Declared.{Declared}
 use Rattle.book.specs.declared.Step.{Step}
 use Rattle.book.specs.declared.Step.the-variants.{Put, Name, Code, Add, New, Read, Write, Relabel, Lower, Start, Exec}
 use Rattle.book.specs.Control.{if_then_else_, both, either}
-use Rattle.book.specs.Book.{Book, Block}
+use Rattle.book.specs.declared.Refusal.the-variants.{Passed}
+use Rattle.book.specs.Book.{Book, Block, parse}
+use Rattle.book.specs.Refusals.{unreadable}
 use Rattle.typing.specs.declared.Known.{Known}
 use Rattle.typing.specs.declared.Known.the-variants as N
 use Rattle.typing.specs.declared.State.{State}
+use Rattle.typing.specs.declared.Verdict.the-variants.{Accepted, Refused}
 use Rattle.typing.specs.Shapes.{View, viewOf, isCode, isCell, isPlain, boundOf, contentOf, trustOf, highTrust, alike, fits, knownOf, knownValue, declaredOk}
 use Rattle.typing.specs.Rules.{Typed, passes, stuck, breaks, need, free, onCell, onCode, register, gives, givesLow, fresh, isLow, known, lowered, lowering, holds, lowStep, making, reading, writing, relabelling, executing, step}
+use Rattle.typing.specs.Verdict.{verdict}
 use Rattle.machine.specs.declared.Event.{Event}
 use Rattle.machine.specs.Histories.{lists}
 use Rattle.machine.specs.Events.{tableSize, launchLabel, freshState, stateAfter}
@@ -84,13 +88,16 @@ acceptedBy R K =
     let B = viewOf K in
     both (every (R B .cell) (K .cells)) (every (λ (b : Block). walkBy B (R B) (b .steps) (passes (fresh (b .bound)))) (K .blocks))
 
--- A book that rules R accept, which the rules of 01 refuse, and events after which a sentence is broken.
+-- A readable book that rules R accept and the verdict refuses, and events after which a sentence is broken.
 pub record Needed (R : View → Rules) : Type 0 where
-  pub book : Book
+  pub bytes : List ℕ
   pub events : List Event
-  pub accepted : acceptedBy R book ≡ true
-  pub refused : acceptedBy rulesOf book ≡ false
-  pub broken : Sentences book (stateAfter lists tableSize book (freshState lists book (launchLabel book)) events) → ⊥
+  pub number : ℕ
+  pub place : ℕ
+  pub readable : unreadable bytes ≡ Passed
+  pub accepted : acceptedBy R (parse bytes) ≡ true
+  pub refused : verdict bytes ≡ Refused number place
+  pub broken : Sentences (parse bytes) (stateAfter lists tableSize (parse bytes) (freshState lists (parse bytes) (launchLabel (parse bytes))) events) → ⊥
 
 -- exec typed without trust at least P: no "and S at least P"
 abbrev pub execUntrusted : View → Rules
@@ -225,11 +232,14 @@ abbrev pub letIn : Book → Book
 letIn K = record { c = label (suc (K .c .0)); shapes = K .shapes; cells = K .cells; blocks = K .blocks }
 
 pub record NeededOutside (machine : Book → Book) : Type 0 where
-  pub book : Book
+  pub bytes : List ℕ
   pub events : List Event
-  pub accepted : acceptedBy rulesOf book ≡ true
-  pub broken : Sentences book (stateAfter lists tableSize (machine book) (freshState lists book (launchLabel book)) events) → ⊥
+  pub accepted : verdict bytes ≡ Accepted 2 1 1 0
+  pub broken :
+      Sentences (parse bytes)
+      (stateAfter lists tableSize (machine (parse bytes)) (freshState lists (parse bytes) (launchLabel (parse bytes))) events) → ⊥
 
+-- the places, one by one; proofs/Weakened.antt has the books and the events
 pub record EachNeeded : Type 1 where
   pub exec-trust : Needed execUntrusted
   pub write-effect : Needed writeThroughLow
