@@ -15,5 +15,6 @@ pub mod Begins
 pub mod Bridge
 pub mod Sentences
 pub mod Integrity
+pub mod ByRules
 pub mod Tested
 pub mod Weakened

@@ -29,17 +29,17 @@ module _ (K : Book) where
   unfoldable pub sentencesHold : State History → Bool
   sentencesHold s = both (every cellHolds (s .cells)) (every jobHolds (s .jobs))
 
-  all-every : {A : Type 0} (f : A → Bool) (l : List A) → ((a : A) → a isIn l → f a ≡ true) → every f l ≡ true
+  member-every : {A : Type 0} (f : A → Bool) (l : List A) → ((a : A) → a isIn l → f a ≡ true) → every f l ≡ true
   unfolding every both
-  all-every f [] h = refl
-  all-every f (x ∷ xs) h = simp (every, h x (List·Memᴰ·head refl)) (all-every f xs (λ a i. h a (List·Memᴰ·tail i)))
+  member-every f [] h = refl
+  member-every f (x ∷ xs) h = simp (every, h x (List·Memᴰ·head refl)) (member-every f xs (λ a i. h a (List·Memᴰ·tail i)))
 
   cell-tested : (s : State History) → Sentences K s → (c : Cell History) → c isIn s .cells → cellHolds c ≡ true
   unfolding cellHolds
   cell-tested s h c m = go (isHigh (trustOf K (c .shape)) (K .c)) refl
     where
       go : (b : Bool) → isHigh (trustOf K (c .shape)) (K .c) ≡ b → cellHolds c ≡ true
-      go true p = simp p (both-true _ _ (h .labels c m p) (all-every (isMet (trustOf K (c .shape))) (hands (c .content .history)) (h .values c m p)))
+      go true p = simp p (both-true _ _ (h .labels c m p) (member-every (isMet (trustOf K (c .shape))) (hands (c .content .history)) (h .values c m p)))
       go false p = simp p
 
   job-tested : (s : State History) → Sentences K s → (j : Job History) → j isIn s .jobs → jobHolds j ≡ true
@@ -47,10 +47,10 @@ module _ (K : Book) where
   job-tested s h j m = go (isAbove (j .label) (K .c)) refl
     where
       go : (b : Bool) → isAbove (j .label) (K .c) ≡ b → jobHolds j ≡ true
-      go true p = simp p (all-every (λ x. reaches x (j .label)) (hands (j .history)) (h .jobs j m p))
+      go true p = simp p (member-every (λ x. reaches x (j .label)) (hands (j .history)) (h .jobs j m p))
       go false p = simp p
 
   pub breaks : (s : State History) → sentencesHold s ≡ false → Sentences K s → ⊥
   unfolding sentencesHold
   breaks s e h =
-      clash (both-true _ _ (all-every cellHolds (s .cells) (cell-tested s h)) (all-every jobHolds (s .jobs) (job-tested s h))) e
+      clash (both-true _ _ (member-every cellHolds (s .cells) (cell-tested s h)) (member-every jobHolds (s .jobs) (job-tested s h))) e

@@ -1,22 +1,18 @@
 -- Each place of the rules is needed: a book that the rules weakened there accept, and events after which a sentence is broken. C is 3, and an
 -- outsider at 3 is the one who breaks it, where it is not the book's own job.
---     step-by, each-needed
+--     each-needed
 -- Assumes nothing.
 use Prim.Native.Nat.{ℕ, zero, suc}
-use mathlib.Core.Path.{_≡_, refl}
-use mathlib.Core.Bool.{Bool, true, false}
+use mathlib.Core.Path.{refl}
 use mathlib.Core.List.{List, [], _∷_, _++_}
 use Rattle.labels.specs.Labels.{label, lower, normal, capped}
-use Rattle.book.specs.declared.Step.{Step}
-use Rattle.book.specs.declared.Step.the-variants.{Put, Name, Code, Add, New, Read, Write, Relabel, Lower, Start, Exec}
-use Rattle.book.specs.Control.{if_then_else_, both, either, those, while, sweep}
+use Rattle.book.specs.Control.{both, either, those, while, sweep}
 use Rattle.book.specs.Kinds.{span, limits, group}
 use Rattle.book.specs.Records.{numberAt, cut, recordsIn, recordsFrom}
 use Rattle.book.specs.Book.{groupOf, stepsFrom, shapeAt, valueOf, declaredAt, stepAt, blockAt, parse}
 use Rattle.book.specs.Refusals.{cutFault, inOrder, misplaced, orderFault, counted, tooMany, beyond, countFault, above, outOfRange, rangeFault, valueNamed, cellNamed, stepNamed, dangling, dangles, nameFault, orRefuse, unreadable}
 use Rattle.book.specs.Outline.{stepCount}
-use Rattle.typing.specs.declared.State.{State}
-use Rattle.typing.specs.Shapes.{View, viewOf, onSome, alikeIn, alike, knownOf, fits, knownValue, declaredOk}
+use Rattle.typing.specs.Shapes.{viewOf, onSome, alikeIn, alike, knownOf, fits, knownValue, declaredOk}
 use Rattle.typing.specs.Rules.{need, free, isPlainly, fresh, known, addable, holds, lowStep, highStep, step, fault}
 use Rattle.typing.specs.Rules as R
 use Rattle.typing.specs.Verdict.{cellFault, orThen, blockFault, stepFault, orRefused, typed, verdictOf}
@@ -26,7 +22,7 @@ use Rattle.machine.specs.Control.{given, onPlain, onCell, onCode}
 use Rattle.machine.specs.Acts.{execLabel, writing, relabelling, making, starting, executing}
 use Rattle.machine.specs.Steps.{sum, adding, reading, lowering, turnOf}
 use Rattle.machine.specs.Events.{landed, turnLanded, outcomeOf, stateAfter}
-use Rattle.integrity.specs.Weakened.{rulesOf, stepBy, walkBy, every, acceptedBy, anyBound, alikeAnyTrust, anyTrust, EachNeeded}
+use Rattle.integrity.specs.Weakened.{stepBy, walkBy, every, acceptedBy, anyBound, alikeAnyTrust, anyTrust, EachNeeded}
 use Rattle.integrity.proofs.Tested.{cellHolds, jobHolds, sentencesHold, breaks}
 
 -- records, as bytes; numbers are below 256
@@ -91,25 +87,6 @@ book rs = 0x01 ∷ 0x03 ∷ joined rs
 abbrev steps : ℕ → ℕ → List Event → List Event
 steps zero i es = es
 steps (suc n) i es = StepOf i ∷ steps n i es
-
--- the rules as data are the rules
-pub step-by : (B : View) (t : State) (p : Step) → stepBy B (rulesOf B) t p ≡ step B t p
-unfolding stepBy step lowStep highStep
-step-by B t (Put r n) = refl
-step-by B t (Name r k) = refl
-step-by B t (Code r b) = refl
-step-by B t (Add r a b) = refl
-step-by B t (New r i a) = refl
-step-by B t (Read r w) = refl
-step-by B t (Write w a) = refl
-step-by B t (Relabel w o) = refl
-step-by B t (Lower q) = go (R.isLow (B .c) (t .p))
-  where
-    go : (b : Bool) → R.lowering (B .c) t q ≡ (if b then R.lowering (B .c) t q else R.lowering (B .c) t q)
-    go true = refl
-    go false = refl
-step-by B t (Start b) = refl
-step-by B t (Exec w) = refl
 
 pub each-needed : EachNeeded
 unfolding lower normal capped both either valueOf valueNamed viewOf onSome alikeIn alike knownOf fits knownValue declaredOk need free R.onCell R.onCode isPlainly fresh known R.lowering addable holds lowStep highStep step given onPlain onCell onCode execLabel writing relabelling making starting executing sum adding reading lowering turnOf landed turnLanded outcomeOf stateAfter stepBy walkBy every acceptedBy anyBound alikeAnyTrust anyTrust cellHolds jobHolds sentencesHold those while sweep span limits group numberAt cut recordsIn recordsFrom groupOf stepsFrom shapeAt declaredAt stepAt blockAt parse cutFault inOrder misplaced orderFault counted tooMany beyond countFault above outOfRange rangeFault cellNamed stepNamed dangling dangles nameFault orRefuse unreadable stepCount fault cellFault orThen blockFault stepFault orRefused typed verdictOf
