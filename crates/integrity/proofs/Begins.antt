@@ -21,10 +21,9 @@ use Rattle.book.specs.Book.{Book, Block}
 use Rattle.book.proofs.Tests.{both-left, both-right}
 use Rattle.typing.specs.declared.Known.the-variants as N
 use Rattle.typing.specs.Shapes.{viewOf, onSome, isCell, contentOf, trustOf, highTrust, fits, knownValue, declaredOk}
-use Rattle.typing.specs.Asked.{Sound}
 use Rattle.machine.specs.Histories.{sources}
 use Rattle.machine.specs.Events.{blockOf, launchLabel, declared, freshState}
-use Rattle.integrity.proofs.Trees.{Tree, cell, tree-cell, tree-trust}
+use Rattle.integrity.proofs.Trees.{Grounded, Tree, cell, tree-cell, tree-trust}
 use Rattle.integrity.proofs.Entries.{All}
 use Rattle.integrity.proofs.Numbers.{facts, normal-above}
 use Rattle.integrity.proofs.Invariant.{Cells, shapeOf, treeOf, treeAt, Has, Fits, Good, CellOk, Invariant}
@@ -32,7 +31,7 @@ use Rattle.integrity.proofs.Knowledge.{bound-is, named-has, fits-has}
 use Rattle.integrity.proofs.LowActs.{BlocksPass, fresh-ok, low-good}
 
 pub record Accepted (K : Book) : Type 0 where
-  pub sound : Sound (shapeOf K)
+  pub sound : Grounded (shapeOf K)
   pub labels : (i : ℕ) → shapeOf K i .trust .0 ≤ 15
   pub cellular : (i : ℕ) → K .c .0 < shapeOf K i .trust .0 → isCell (K .c) (shapeOf K) i ≡ true
   pub cells : All (λ d. declaredOk (viewOf K) d ≡ true) (K .cells)

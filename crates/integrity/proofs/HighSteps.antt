@@ -21,14 +21,13 @@ use Rattle.typing.specs.declared.State as T
 use Rattle.typing.specs.Shapes.{isCell, contentOf, trustOf, highTrust, knownOf}
 use Rattle.typing.specs.Rules.{known, isLow, holds, used}
 use Rattle.typing.specs.Rules as R
-use Rattle.typing.specs.Asked.{Sound}
 use Rattle.machine.specs.Histories.{sources}
 use Rattle.machine.specs.States.{Cell, Job, State}
 use Rattle.machine.specs.Acts.{keep, create, execLabel, freshJob, acted, writing, relabelling, making, starting, executing}
 use Rattle.machine.specs.Steps.{register, gets, giving, moved, through, adding, reading, lowering}
 use Rattle.machine.specs.Events.{blockOf}
 use Rattle.integrity.proofs.Booleans.{both-true, either-second, not-false}
-use Rattle.integrity.proofs.Trees.{code, tree-cell}
+use Rattle.integrity.proofs.Trees.{Grounded, code, tree-cell}
 use Rattle.integrity.proofs.Entries.{All2, all2-map}
 use Rattle.integrity.proofs.Numbers.{facts, act-source, read-source, read-above, joined-three, add-source, exec-bound, exec-own, exec-code, held-label, lower-number}
 use Rattle.integrity.proofs.Invariant.{shapeOf, treeOf, Has, Good, CellOk, RegisterOk, Match, JobOk, Invariant}
@@ -38,7 +37,7 @@ use Rattle.integrity.proofs.Knowledge.{bound-is, named-has, fits-has, h
 use Rattle.integrity.proofs.LowActs.{BlocksPass, fresh-ok, low-good, one-shape}
 use Rattle.integrity.proofs.Outcomes.{register-ok, fits-known, gives-ok, low-ok, own-ok, moves-ok, good-at, put-back}
 
-module _ (K : Book) (size : ℕ) (s : State Label) (v : Invariant K s) (ok : Sound (shapeOf K)) (pass : BlocksPass K) (j : Job Label) (t : T.State)
+module _ (K : Book) (size : ℕ) (s : State Label) (v : Invariant K s) (ok : Grounded (shapeOf K)) (pass : BlocksPass K) (j : Job Label) (t : T.State)
     (m : Match K (s .cells) t j) where
   pub put-ok : (r n : ℕ) → StepOk K (s .cells) j (R.gives t r N.Plain (t .p)) (giving sources j r (Plain n))
   put-ok r n = own-ok K s j t m r N.Plain (Plain n) keep keep-ok (λ i e. cc) tt

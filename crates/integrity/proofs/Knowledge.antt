@@ -20,9 +20,8 @@ use Rattle.book.proofs.Tests.{clash, both-left, both-right}
 use Rattle.typing.specs.declared.Known.{Known}
 use Rattle.typing.specs.declared.Known.the-variants as N
 use Rattle.typing.specs.Shapes.{isCode, isCell, boundOf, knownOf, fits}
-use Rattle.typing.specs.Asked.{Sound}
 use Rattle.machine.specs.Events.{noBlock}
-use Rattle.integrity.proofs.Trees.{Tree, plain, code, cell, tree-code, tree-plain, alike-tree}
+use Rattle.integrity.proofs.Trees.{Grounded, Tree, plain, code, cell, tree-code, tree-plain, alike-tree}
 use Rattle.integrity.proofs.Invariant.{Cells, shapeOf, treeOf, treeAt, Has, Fits}
 
 pub bound-is : (bs : List Block) (b : ℕ) (l : Label) → getElem? (map (λ (b : Block). b .bound) bs) b ≡ some l → getD bs b noBlock .bound ≡ l
@@ -46,7 +45,7 @@ module _ (K : Book) (cs : Cells) where
   named-has k (code m) e = tt
   named-has k (cell t s) e = e
 
-  module _ (ok : Sound (shapeOf K)) where
+  module _ (ok : Grounded (shapeOf K)) where
     pub fits-has : (v : Value) (k : Known) (i : ℕ) → fits (K .c) (shapeOf K) k i ≡ true → Fits K cs v k → Has K cs v (treeOf K i)
     unfolding fits
     fits-has v N.Unknown i e h = clash e refl

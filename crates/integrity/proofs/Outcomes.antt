@@ -20,12 +20,11 @@ use Rattle.typing.specs.declared.State as T
 use Rattle.typing.specs.Shapes.{isCell, contentOf, trustOf}
 use Rattle.typing.specs.Rules.{passes, known, lowRegister, isLow}
 use Rattle.typing.specs.Rules as R
-use Rattle.typing.specs.Asked.{Sound}
 use Rattle.machine.specs.Histories.{sources}
 use Rattle.machine.specs.States.{Traced, Cell, Job, State}
 use Rattle.machine.specs.Acts.{Effect, store, zeroWith}
 use Rattle.machine.specs.Steps.{register, gets, moved}
-use Rattle.integrity.proofs.Trees.{cell, tree-cell}
+use Rattle.integrity.proofs.Trees.{Grounded, cell, tree-cell}
 use Rattle.integrity.proofs.Entries.{all-at, all2-set, all2-get}
 use Rattle.integrity.proofs.Numbers.{facts}
 use Rattle.integrity.proofs.Invariant.{Cells, shapeOf, treeOf, treeAt, Fits, Good, CellOk, RegisterOk, Match, Invariant, registers-kept}
@@ -105,7 +104,7 @@ module _ (K : Book) (s : State Label) (j : Job Label) (t : T.State) (m : Match K
         };
       })
 
-  module _ (ok : Sound (shapeOf K)) (v : Invariant K s) (w i k : ℕ) (c : Cell Label) (ei : known (K .c) t w ≡ N.CellOf i)
+  module _ (ok : Grounded (shapeOf K)) (v : Invariant K s) (w i k : ℕ) (c : Cell Label) (ei : known (K .c) t w ≡ N.CellOf i)
       (ek : register sources j w .value ≡ CellName k) (ec : getElem? (s .cells) k ≡ some c) where
     pub tree-at : treeOf K (c .shape) ≡ cell (treeOf K (contentOf (K .c) (shapeOf K) i)) (trustOf (K .c) (shapeOf K) i .0)
     tree-at =

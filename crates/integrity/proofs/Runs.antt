@@ -14,7 +14,6 @@ use Rattle.book.specs.Book.{Book}
 use Rattle.book.proofs.Tests.{clash, both-left, both-right}
 use Rattle.typing.specs.Shapes.{viewOf, onSome}
 use Rattle.typing.specs.Rules.{Typed, breaks}
-use Rattle.typing.specs.Asked.{Sound}
 use Rattle.machine.specs.declared.Event.{Event}
 use Rattle.machine.specs.declared.Event.the-variants.{StepOf, WriteBy, RelabelBy, NewBy, ExecBy, StartBy}
 use Rattle.machine.specs.Control.{given}
@@ -22,6 +21,7 @@ use Rattle.machine.specs.Histories.{sources}
 use Rattle.machine.specs.States.{Job, State}
 use Rattle.machine.specs.Steps.{Turn, turnOf}
 use Rattle.machine.specs.Events.{Outcome, blockOf, brought, landed, turnLanded, outcomeOf, stateAfter}
+use Rattle.integrity.proofs.Trees.{Grounded}
 use Rattle.integrity.proofs.Entries.{all-set, all-at, all-map, drop-at}
 use Rattle.integrity.proofs.Numbers.{low-normal}
 use Rattle.integrity.proofs.Invariant.{passesAll, shapeOf, JobOk, Invariant, job-kept}
@@ -60,7 +60,7 @@ turn-ok K s v i j (fine {t} {i = n} {e} h) q =
     (all-set (JobOk K (After K (s .cells) e)) (s .jobs) i n (all-map (job-kept K (grows K (s .cells) e (h .effect))) (s .jobs) (v .jobs))
     (record { state = t; matches = h .matches; rest = rw (h .same, h .moved) q }))
 
-module _ (K : Book) (size : ℕ) (ok : Sound (shapeOf K)) (pass : BlocksPass K) where
+module _ (K : Book) (size : ℕ) (ok : Grounded (shapeOf K)) (pass : BlocksPass K) where
   step-event : (s : State Label) → Invariant K s → (i : ℕ) (j : Job Label) → getElem? (s .jobs) i ≡ some j
       → (p : Step) → getElem? (blockOf K (j .block) .steps) (j .position) ≡ some p → Invariant K (turnLanded s i (turnOf sources size s j p) .state)
   step-event s v i j ej p ep =

@@ -14,11 +14,11 @@ use Rattle.book.specs.Book.{Book}
 use Rattle.typing.specs.declared.State as T
 use Rattle.typing.specs.Shapes.{viewOf, highTrust, trustOf}
 use Rattle.typing.specs.Rules.{passes, isLow, lowStep, highStep, step}
-use Rattle.typing.specs.Asked.{Sound}
 use Rattle.machine.specs.Histories.{sources}
 use Rattle.machine.specs.States.{Job, State}
 use Rattle.machine.specs.Acts.{Effect, keep}
 use Rattle.machine.specs.Steps.{register, through, adding, reading, turnOf}
+use Rattle.integrity.proofs.Trees.{Grounded}
 use Rattle.integrity.proofs.Invariant.{shapeOf, Match, Invariant}
 use Rattle.integrity.proofs.Effects.{EffectOk, keep-ok}
 use Rattle.integrity.proofs.Walks.{StepOk, need-ok, either-ok, entry-ok, plain-ok, cell-ok}
@@ -26,7 +26,7 @@ use Rattle.integrity.proofs.LowActs.{BlocksPass, low-writing, low-relab
 use Rattle.integrity.proofs.Outcomes.{low-ok, moves-ok}
 use Rattle.integrity.proofs.HighSteps.{put-ok, name-ok, code-ok, add-ok, new-ok, read-ok, lower-ok, write-ok, relabel-ok, start-ok, exec-ok}
 
-module _ (K : Book) (size : ℕ) (s : State Label) (v : Invariant K s) (ok : Sound (shapeOf K)) (pass : BlocksPass K) (j : Job Label) (t : T.State)
+module _ (K : Book) (size : ℕ) (s : State Label) (v : Invariant K s) (ok : Grounded (shapeOf K)) (pass : BlocksPass K) (j : Job Label) (t : T.State)
     (m : Match K (s .cells) t j) where
   -- the job is at or below C too
   low-label : t .p .0 ≤ K .c .0 → j .label .0 ≤ K .c .0

@@ -1,5 +1,5 @@
 -- Shapes as trees, contents written out: shapes that are alike are equal as trees.
---     Tree, tree                                   the tree of a shape
+--     Grounded, Tree, tree                         the tree of a shape
 --     tree-cell, tree-code, tree-plain             by the shape's kind
 --     alike-tree                                   likeness
 --     tree-trust                                   the trust of a cell shape
@@ -15,7 +15,10 @@ use Rattle.book.specs.declared.Shape.{Shape}
 use Rattle.book.specs.Control.{both, either}
 use Rattle.book.proofs.Tests.{clash, both-left, both-right, either-false}
 use Rattle.typing.specs.Shapes.{isCode, isCell, boundOf, contentOf, trustOf, alikeIn, alike}
-use Rattle.typing.specs.Asked.{Sound}
+
+-- contents are lower-numbered: refusal 6
+pub record Grounded (shape : ℕ → Shape) : Type 0 where
+  pub falls : (i : ℕ) → shape i .kind ≡ 18 → shape i .content < i
 
 -- plain; code of a bound; a cell of a content and a normalised trust
 pub data Tree : Type 0 where
@@ -84,7 +87,7 @@ module _ (c : Label) (shape : ℕ → Shape) where
       go false p true q = let z : _≡_ {A = Tree} (cell (treeIn i (contentOf c shape i)) (trustOf c shape i .0)) (cell t S) = simp (p, q) at e in cc
       go false p false q = let z : _≡_ {A = Tree} plain (cell t S) = simp (p, q) at e in cc
 
-  module _ (ok : Sound shape) where
+  module _ (ok : Grounded shape) where
     deep : (f g i : ℕ) → i < f → i < g → treeIn f i ≡ treeIn g i
     unfolding treeIn
     deep zero g i p q = absurd (omega arith)
