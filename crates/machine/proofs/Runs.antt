@@ -13,7 +13,7 @@ use Rattle.machine.specs.Control.{given, onPlain, onCell, onCode}
 use Rattle.machine.specs.Acts.{execLabel, writing, relabelling, making, starting, executing}
 use Rattle.machine.specs.Steps.{sum, adding, reading, lowering, turnOf}
 use Rattle.machine.specs.Events.{landed, turnLanded, outcomeOf, stateAfter, answers}
-use Rattle.machine.specs.Samples.{SampleRuns}
+use Rattle.machine.specs.Samples.{SampleRuns, HistoryRun}
 
 pub sample-runs : SampleRuns
 unfolding lower both either those while span limits group numberAt cut recordsIn recordsFrom groupOf stepsFrom shapeAt valueOf declaredAt stepAt blockAt parse valueNamed onSome given onPlain onCell onCode execLabel writing relabelling making starting executing sum adding reading lowering turnOf landed turnLanded outcomeOf stateAfter answers
@@ -26,3 +26,7 @@ sample-runs =
       outsider-blocked = refl;
       outsider-refused = refl;
     }
+
+pub history-run : HistoryRun
+unfolding lower both either those while span limits group numberAt cut recordsIn recordsFrom groupOf stepsFrom shapeAt valueOf declaredAt stepAt blockAt parse valueNamed onSome given onPlain onCell onCode execLabel writing relabelling making starting executing sum adding reading lowering turnOf landed turnLanded outcomeOf stateAfter answers
+history-run = record { cells = refl; jobs = refl }

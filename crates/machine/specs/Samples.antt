@@ -1,14 +1,20 @@
--- The sample runs of 01, "Sample books".
+-- Sample runs.
+--     SampleRuns       those of 01, "Sample books"
+--     HistoryRun       one that has nearly every act, with the histories that it leaves
 -- Assumes nothing.
 use Prim.Native.Nat.{ℕ}
 use mathlib.Core.Path.{_≡_}
-use mathlib.Core.List.{List, [], _∷_}
+use mathlib.Core.List.{List, [], _∷_, map}
+use Rattle.labels.specs.declared.Label.{Label}
 use Rattle.labels.specs.Labels.{label, trust}
+use Rattle.book.specs.declared.Value.{Value}
+use Rattle.book.specs.declared.Value.the-variants.{Plain, CodeName}
 use Rattle.book.specs.Book.{Book, parse}
 use Rattle.typing.specs.Samples.{bookA, write}
 use Rattle.machine.specs.declared.Event.{Event}
-use Rattle.machine.specs.declared.Event.the-variants.{StepOf, WriteBy}
-use Rattle.machine.specs.Histories.{lists}
+use Rattle.machine.specs.declared.Event.the-variants.{StepOf, WriteBy, RelabelBy, NewBy, ExecBy, StartBy}
+use Rattle.machine.specs.Histories.{History, hands, lists}
+use Rattle.machine.specs.States.{Cell, Job, State}
 use Rattle.machine.specs.Events.{tableSize, launchLabel, freshState, stateAfter, answers}
 use Rattle.machine.specs.Records.{CellRecord, cellRecords}
 
@@ -45,3 +51,59 @@ pub record SampleRuns : Type 0 where
   -- "Event 51 03 00 00 07 00 00 00 answers 1; with 04 for 03, 3."
   pub outsider-blocked : answersOf (ofBound 0x0C) (writeSeven 3) ≡ 1 ∷ []
   pub outsider-refused : answersOf (ofBound 0x0C) (writeSeven 4) ≡ 3 ∷ []
+
+-- C 3; shapes: plain, a cell of it, code of bound 12, a cell of it; cells, of low trust and label 0: a number, block 1's code
+abbrev pub bookOfActs : List ℕ
+bookOfActs =
+    0x01 ∷ 0x03
+    ∷ 0x10
+    ∷ 0x12 ∷ 0x00 ∷ 0x00
+    ∷ 0x11 ∷ 0x0C
+    ∷ 0x12 ∷ 0x02 ∷ 0x00
+    ∷ 0x20 ∷ 0x01 ∷ 0x00 ∷ 0x00 ∷ 0x05 ∷ 0x00 ∷ 0x00 ∷ 0x00
+    ∷ 0x20 ∷ 0x03 ∷ 0x00 ∷ 0x02 ∷ 0x01 ∷ 0x00 ∷ 0x00 ∷ 0x00
+    ∷ 0x30 ∷ 0x0C
+    ∷ 0x41 ∷ 0x00 ∷ 0x00  -- name 0, cell 0
+    ∷ 0x45 ∷ 0x01 ∷ 0x00  -- read 1, 0
+    ∷ 0x40 ∷ 0x02 ∷ 0x07 ∷ 0x00 ∷ 0x00 ∷ 0x00  -- put 2, 7
+    ∷ 0x43 ∷ 0x03 ∷ 0x01 ∷ 0x02  -- add 3, 1, 2
+    ∷ 0x44 ∷ 0x04 ∷ 0x01 ∷ 0x03  -- new 4, shape 1, 3
+    ∷ 0x48 ∷ 0x05  -- lower 5
+    ∷ 0x46 ∷ 0x00 ∷ 0x02  -- write 0, 2
+    ∷ 0x49 ∷ 0x01  -- start block 1
+    ∷ 0x41 ∷ 0x05 ∷ 0x01  -- name 5, cell 1
+    ∷ 0x4A ∷ 0x05  -- exec 5
+    ∷ 0x30 ∷ 0x0C
+    ∷ []
+
+-- an outsider writes 9 into cell 0; job 0 takes its ten steps; then an outsider runs cell 1, makes a cell, relabels cell 0, starts block 1
+abbrev pub acts : List Event
+acts =
+    WriteBy (label 3) 0 0 9
+    ∷ StepOf 0 ∷ StepOf 0 ∷ StepOf 0 ∷ StepOf 0 ∷ StepOf 0 ∷ StepOf 0 ∷ StepOf 0 ∷ StepOf 0 ∷ StepOf 0 ∷ StepOf 0
+    ∷ ExecBy (label 2) 1 ∷ NewBy (label 1) 1 0 8 ∷ RelabelBy (label 3) 0 (label 2) ∷ StartBy (label 2) 1
+    ∷ []
+
+abbrev pub numbers : History → List ℕ
+numbers h = map (λ (l : Label). l .0) (hands h)
+
+-- a cell's label, value and the value's history; a job's block, position, label and history
+abbrev pub shownCell : Cell History → ℕ × Value × List ℕ
+shownCell c = (c .label .0, c .content .value, numbers (c .content .history))
+
+abbrev pub shownJob : Job History → ℕ × ℕ × ℕ × List ℕ
+shownJob j = (j .block, j .position, j .label .0, numbers (j .history))
+
+abbrev pub afterActs : State History
+afterActs = stateAfter lists tableSize (parse bookOfActs) (freshState lists (parse bookOfActs) (launchLabel (parse bookOfActs))) acts
+
+pub record HistoryRun : Type 0 where
+  pub cells : map shownCell (afterActs .cells)
+      ≡ (2, Plain 7, 12 ∷ 12 ∷ 5 ∷ []) ∷ (0, CodeName 1, 15 ∷ []) ∷ (12, Plain 16, 3 ∷ 3 ∷ 12 ∷ 12 ∷ 12 ∷ 12 ∷ []) ∷ (1, Plain 8, 1 ∷ 1 ∷ []) ∷ []
+  pub jobs : map shownJob (afterActs .jobs)
+      ≡ (0, 10, 5, 12 ∷ 5 ∷ [])
+      ∷ (1, 0, 5, 12 ∷ 5 ∷ [])
+      ∷ (1, 0, 0, 12 ∷ 5 ∷ 15 ∷ 0 ∷ [])
+      ∷ (1, 0, 0, 2 ∷ 15 ∷ 0 ∷ [])
+      ∷ (1, 0, 2, 2 ∷ [])
+      ∷ []
