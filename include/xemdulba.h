@@ -1,8 +1,8 @@
 /* Xemdulba: checks a control job book before it runs. Link target/staticlib/libxemdulba.a, which `rt staticlib xemdulba` writes.
  *
  * Every call returns on every input, writes to no memory that it is lent, and answers what the proved definitions say. A book is
- * any bytes; `book` may be any address, not null, where `length` is 0. A book that can be read has at most 32,768 bytes, so every
- * count and place fits with room to spare.
+ * any bytes; `book` may be any address, not null, where `length` is 0. Every number is the definitions' own: it is proved that it has
+ * 32 bits. No place, start or length is above 32,768.
  *
  * The refusals, each with the place of the first record at fault, as an offset of the book:
  *   1   the book is longer than 32,768 bytes; place 0

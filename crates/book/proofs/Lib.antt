@@ -18,3 +18,4 @@ pub mod Named
 pub mod Lower
 pub mod Readable
 pub mod Blocks
+pub mod Bounds

@@ -7,3 +7,4 @@ pub mod Walks
 pub mod DeclaredRules
 pub mod BookRules
 pub mod Tables
+pub mod Bounds

@@ -1,50 +1,79 @@
 -- Laws of the exported calls: what a callee gave stands as a variable with its equation.
---     narrows, checks, founds      one set for each call
+--     checks, founds          what each call answers
+--     check-fits, found-fits  its numbers have 32 bits
 -- Assumes nothing.
 use mathlib.Core.Path.{_≡_}
-use Prim.Native.Nat.{ℕ, _≤_, _<_}
-use borrow.Author.Tests.{lt-ltb, le-ltb}
+use mathlib.Core.List.{List}
+use Prim.Native.Nat.{ℕ, _<_}
+use native.Mathlib.Omega.{arith}
+use borrow.Author.Needs.{fits-under}
+use mir.Val.{Fits}
+use mir.Syntax.{w32}
 use Rattle.book.specs.declared.Refusal.the-variants.{Passed}
 use Rattle.book.specs.declared.Refusal.the-variants as R
 use Rattle.book.specs.declared.Found.{Found}
+use Rattle.book.specs.Stretch.{foundBlock}
+use Rattle.book.proofs.Bounds.{found-place, found-short}
 use Rattle.typing.specs.declared.Verdict.{Verdict}
 use Rattle.typing.specs.declared.Verdict.the-variants.{Accepted, Refused}
-use Rattle.xemdulba.specs.Calls.{narrow, checked, foundBy, found}
+use Rattle.typing.specs.Verdict.{verdict}
+use Rattle.typing.proofs.Bounds.{verdict-place, verdict-counts}
+use Rattle.xemdulba.specs.Calls.{checked, foundBy, found}
 
-pub narrow-fits : (n : ℕ) → n < 4294967296 → n ≡ narrow n
-unfolding narrow
-narrow-fits n h = simp (lt-ltb _ _ h)
+fits : (n : ℕ) → n < 4294967296 → Fits w32 n
+fits n h = fits-under w32 n 4294967296 h tt
 
-pub narrow-large : (n : ℕ) → 4294967296 ≤ n → 4294967295 ≡ narrow n
-unfolding narrow
-narrow-large n h = simp (le-ltb _ _ h)
-
-pub ruleset narrows = (narrow-fits, narrow-large)
-
--- z is the verdict
-module _ (z v : Verdict) (ev : v ≡ z) where
-  pub check-refused : (n o p : ℕ) → v ≡ Refused n o → p ≡ narrow o
-      → record { refusal = n; place = p; shapes = 0; cells = 0; blocks = 0; steps = 0 } ≡ checked z
+-- v is the verdict
+module _ (s : List ℕ) (v : Verdict) (ev : v ≡ verdict s) where
+  pub check-refused : (n o : ℕ) → v ≡ Refused n o
+      → record { refusal = n; place = o; shapes = 0; cells = 0; blocks = 0; steps = 0 } ≡ checked (verdict s)
   unfolding checked
-  check-refused n o p e ep = simp (← ev, e, ep)
+  check-refused n o e = simp (← ev, e)
 
-  pub check-accepted : (i k b p i′ k′ b′ p′ : ℕ) → v ≡ Accepted i k b p → i′ ≡ narrow i → k′ ≡ narrow k → b′ ≡ narrow b → p′ ≡ narrow p
-      → record { refusal = 0; place = 0; shapes = i′; cells = k′; blocks = b′; steps = p′ } ≡ checked z
-  unfolding checked
-  check-accepted i k b p i′ k′ b′ p′ e ei ek eb ep = simp (← ev, e, ei, ek, eb, ep)
+  pub check-place : (n o : ℕ) → v ≡ Refused n o → Fits w32 o
+  check-place n o e = fits o (omega (arith, verdict-place s v ev n o e))
+
+  module _ (i k b p : ℕ) (e : v ≡ Accepted i k b p) where
+    pub check-accepted : record { refusal = 0; place = 0; shapes = i; cells = k; blocks = b; steps = p } ≡ checked (verdict s)
+    unfolding checked
+    check-accepted = simp (← ev, e)
+
+    pub check-shapes : Fits w32 i
+    check-shapes = fits i (omega (arith, verdict-counts s v ev i k b p e))
+
+    pub check-cells : Fits w32 k
+    check-cells = fits k (omega (arith, verdict-counts s v ev i k b p e))
+
+    pub check-blocks : Fits w32 b
+    check-blocks = fits b (omega (arith, verdict-counts s v ev i k b p e))
+
+    pub check-steps : Fits w32 p
+    check-steps = fits p (omega (arith, verdict-counts s v ev i k b p e))
 
 pub ruleset checks = (check-refused, check-accepted)
 
--- z is where the block's stretch stands
-module _ (z f : Found) (ef : f ≡ z) where
-  pub found-refused : (n o p : ℕ) → f .refusal ≡ R.Refused n o → p ≡ narrow o
-      → record { refusal = n; place = p; start = 0; length = 0 } ≡ found z
-  unfolding foundBy
-  found-refused n o p e ep = simp (← ef, e, ep)
+pub ruleset check-fits = (check-place, check-shapes, check-cells, check-blocks, check-steps)
 
-  pub found-there : (a l : ℕ) → f .refusal ≡ Passed → a ≡ narrow (f .start) → l ≡ narrow (f .length)
-      → record { refusal = 0; place = 0; start = a; length = l } ≡ found z
+-- f is where the block's stretch stands
+module _ (s : List ℕ) (i : ℕ) (f : Found) (ef : f ≡ foundBlock s i) where
+  pub found-refused : (n o : ℕ) → f .refusal ≡ R.Refused n o → record { refusal = n; place = o; start = 0; length = 0 } ≡ found (foundBlock s i)
   unfolding foundBy
-  found-there a l e ea el = simp (← ef, e, ea, el)
+  found-refused n o e = simp (← ef, e)
+
+  pub found-at : (n o : ℕ) → f .refusal ≡ R.Refused n o → Fits w32 o
+  found-at n o e = fits o (omega (arith, found-place s i f ef n o e))
+
+  module _ (e : f .refusal ≡ Passed) where
+    pub found-there : record { refusal = 0; place = 0; start = f .start; length = f .length } ≡ found (foundBlock s i)
+    unfolding foundBy
+    found-there = simp (← ef, e)
+
+    pub found-start : Fits w32 (f .start)
+    found-start = fits (f .start) (omega (arith, found-short s i f ef e))
+
+    pub found-length : Fits w32 (f .length)
+    found-length = fits (f .length) (omega (arith, found-short s i f ef e))
 
 pub ruleset founds = (found-refused, found-there)
+
+pub ruleset found-fits = (found-at, found-start, found-length)

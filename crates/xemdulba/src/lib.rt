@@ -4,7 +4,7 @@ use typing::Verdict;
 ghost use mathlib.Core.Path.{_≡_};
 ghost use Rattle.book.specs.Stretch.{foundBlock};
 ghost use Rattle.typing.specs.Verdict.{verdict};
-ghost use Rattle.xemdulba.specs.Calls.{narrow, checked, found};
+ghost use Rattle.xemdulba.specs.Calls.{checked, found};
 
 // The verdict on a book: refusal 0 where it is accepted. On a refusal the counts are 0.
 #[repr(C)]
@@ -26,15 +26,6 @@ pub struct Stretch {
     pub length: u32,
 }
 
-fn narrowed(n: usize) -> u32
-    ensures { λ r. ⌜ r ≡ narrow n ⌝ }
-{
-    if n < 4294967296 {
-        return n as u32;
-    }
-    4294967295
-}
-
 // Checks a book. Writes nothing.
 #[no_mangle]
 pub extern "C" fn xemdulba_check(book: &[u8]) -> Checked
@@ -43,10 +34,11 @@ pub extern "C" fn xemdulba_check(book: &[u8]) -> Checked
     let v = typing::check(book);
     match v {
         Verdict::Refused { number, place } => {
-            let at = narrowed(place);
+            let n = number as u32;
+            let o = place as u32;
             Checked {
-                refusal: number as u32,
-                place: at,
+                refusal: n,
+                place: o,
                 shapes: 0,
                 cells: 0,
                 blocks: 0,
@@ -59,10 +51,10 @@ pub extern "C" fn xemdulba_check(book: &[u8]) -> Checked
             blocks,
             steps,
         } => {
-            let i = narrowed(shapes);
-            let k = narrowed(cells);
-            let b = narrowed(blocks);
-            let p = narrowed(steps);
+            let i = shapes as u32;
+            let k = cells as u32;
+            let b = blocks as u32;
+            let p = steps as u32;
             Checked {
                 refusal: 0,
                 place: 0,
@@ -84,17 +76,18 @@ pub extern "C" fn xemdulba_block(book: &[u8], block: u32) -> Stretch
     let refusal = f.refusal;
     match refusal {
         Refusal::Refused { number, place } => {
-            let at = narrowed(place);
+            let by = number as u32;
+            let at = place as u32;
             Stretch {
-                refusal: number as u32,
+                refusal: by,
                 place: at,
                 start: 0,
                 length: 0,
             }
         }
         Refusal::Passed => {
-            let start = narrowed(f.start);
-            let length = narrowed(f.length);
+            let start = f.start as u32;
+            let length = f.length as u32;
             Stretch {
                 refusal: 0,
                 place: 0,

@@ -1,6 +1,6 @@
 -- `xemdulba_block` meets its contract. Assumes nothing.
 use borrow.Author.Needs.{needs}
-use Rattle.xemdulba.proofs.Answers.{founds}
+use Rattle.xemdulba.proofs.Answers.{founds, found-fits}
 use Rattle.xemdulba.proofs.xemdulba_block.Tie as tie
 use Rattle.xemdulba.proofs.xemdulba_block.Statement.{statement}
 
@@ -10,20 +10,20 @@ find-block-requires c κs = search needs
 enum-known-refusal : tie.Need-enum-known-refusal
 enum-known-refusal c = search needs
 
-narrowed-requires : tie.Need-narrowed-requires
-narrowed-requires c κs = search needs
+cast-by : tie.Need-cast-by
+cast-by c = search needs
 
-cast-t12 : tie.Need-cast-t12
-cast-t12 c = search needs
+cast-at : tie.Need-cast-at
+cast-at c = search found-fits
 
 enum-told : tie.Need-enum-told
 enum-told c = search needs
 
-narrowed-requires-2 : tie.Need-narrowed-requires-2
-narrowed-requires-2 c κs = search needs
+cast-start : tie.Need-cast-start
+cast-start c = search found-fits
 
-narrowed-requires-3 : tie.Need-narrowed-requires-3
-narrowed-requires-3 c κs = search needs
+cast-length : tie.Need-cast-length
+cast-length c = search found-fits
 
 returns : tie.Need-returns
 returns c = search founds
@@ -37,10 +37,10 @@ xemdulba-block-spec =
     (tie.spec
     find-block-requires
     enum-known-refusal
-    narrowed-requires
-    cast-t12
+    cast-by
+    cast-at
     enum-told
-    narrowed-requires-2
-    narrowed-requires-3
+    cast-start
+    cast-length
     returns
     returns-2)

@@ -1,6 +1,6 @@
 -- `xemdulba_check` meets its contract. Assumes nothing.
 use borrow.Author.Needs.{needs}
-use Rattle.xemdulba.proofs.Answers.{checks}
+use Rattle.xemdulba.proofs.Answers.{checks, check-fits}
 use Rattle.xemdulba.proofs.xemdulba_check.Tie as tie
 use Rattle.xemdulba.proofs.xemdulba_check.Statement.{statement}
 
@@ -10,26 +10,26 @@ check-requires c κs = search needs
 enum-known-v : tie.Need-enum-known-v
 enum-known-v c = search needs
 
-narrowed-requires : tie.Need-narrowed-requires
-narrowed-requires c κs = search needs
+cast-n : tie.Need-cast-n
+cast-n c = search needs
 
-cast-t15 : tie.Need-cast-t15
-cast-t15 c = search needs
+cast-o : tie.Need-cast-o
+cast-o c = search check-fits
 
 enum-known-v-2 : tie.Need-enum-known-v-2
 enum-known-v-2 c = search needs
 
-narrowed-requires-2 : tie.Need-narrowed-requires-2
-narrowed-requires-2 c κs = search needs
+cast-i : tie.Need-cast-i
+cast-i c = search check-fits
 
-narrowed-requires-3 : tie.Need-narrowed-requires-3
-narrowed-requires-3 c κs = search needs
+cast-k : tie.Need-cast-k
+cast-k c = search check-fits
 
-narrowed-requires-4 : tie.Need-narrowed-requires-4
-narrowed-requires-4 c κs = search needs
+cast-b : tie.Need-cast-b
+cast-b c = search check-fits
 
-narrowed-requires-5 : tie.Need-narrowed-requires-5
-narrowed-requires-5 c κs = search needs
+cast-p : tie.Need-cast-p
+cast-p c = search check-fits
 
 returns : tie.Need-returns
 returns c = search checks
@@ -43,12 +43,12 @@ xemdulba-check-spec =
     (tie.spec
     check-requires
     enum-known-v
-    narrowed-requires
-    cast-t15
+    cast-n
+    cast-o
     enum-known-v-2
-    narrowed-requires-2
-    narrowed-requires-3
-    narrowed-requires-4
-    narrowed-requires-5
+    cast-i
+    cast-k
+    cast-b
+    cast-p
     returns
     returns-2)
