@@ -7,9 +7,9 @@ use mathlib.Core.Path.{_≡_, refl, sym, ap, _∙_}
 use mathlib.Core.List.{List, [], _∷_, _++_, map, map-id}
 use Prim.Native.Nat.{ℕ, _+_, _-_, _*_, _≤_, _<_}
 use native.Mathlib.Omega.{arith}
-use lib.ListN.{length, set, take, drop, replicate}
+use lib.ListN.{length, set, take, drop}
 use mir.Val.{Fits}
-use mir.Syntax.{w16, w64}
+use mir.Syntax.{w64}
 use Rattle.labels.specs.Labels.{label}
 use Rattle.book.specs.declared.Shape.{Shape}
 use Rattle.book.specs.declared.Counts.{Counts}
@@ -18,8 +18,8 @@ use Rattle.book.specs.Control.{those}
 use Rattle.book.specs.Kinds.{group}
 use Rattle.book.specs.Records.{byteAt, next, recordsFrom, inGroup}
 use Rattle.book.specs.Book.{groupOf, stepsFrom, shapeAt}
-use Rattle.book.specs.Outline.{stepsEnd, shapeBytes, boundAt, startAt, lengthAt, stepCount, outlineOf}
-use Rattle.book.specs.Asked.{Whole, Small, skipped}
+use Rattle.book.specs.Outline.{stepsEnd, shapeBytes, boundAt, startAt, lengthAt, stepCount, outlineOf, noCounts}
+use Rattle.book.specs.Asked.{Whole, Small, Blank, drawn, skipped}
 use Rattle.book.proofs.Groups.{block-span}
 use Rattle.book.proofs.Records.{records-end, walk}
 use Rattle.book.proofs.Filled.{Filled, fill-start, fill-room, fill-push, fill-end}
@@ -49,12 +49,12 @@ pub record Gathered (s : List ℕ) (o : ℕ) (shape cell shaped bound start size
   pub steps : n .steps + stepCount s (ahead s 4 o) ≡ stepCount s (groupOf s 4)
   pub few : n .steps ≤ o
 
-pub gather-start : (s : List ℕ) → Small s
-    → Gathered s 0 (replicate 128 0) (replicate 32 0) (replicate 32 0) (replicate 64 0) (replicate 64 0) (replicate 64 0)
-    (record { shapes = 0; cells = 0; blocks = 0; steps = 0 })
+pub gather-start : (s shape cell shaped bound start size : List ℕ) (n : Counts) → Small s → Blank shape cell shaped bound start size → n ≡ noCounts
+    → Gathered s 0 shape cell shaped bound start size n
 unfolding groupOf stepCount
-gather-start s h =
-    record {
+gather-start s shape cell shaped bound start size n h b e =
+    rw (e, b .shapes, b .cells, b .owners, b .bounds, b .starts, b .sizes)
+    (record {
       inside = omega arith;
       whole = h .whole;
       shapes = table-start s (groupOf s 2);
@@ -65,7 +65,7 @@ gather-start s h =
       sizes = fill-start 0 64 (lengthAt s) (groupOf s 4);
       steps = omega arith;
       few = omega arith;
-    }
+    })
 
 module _ (s : List ℕ) (o : ℕ) (shape cell shaped bound start size : List ℕ) (n : Counts)
     (k : Gathered s o shape cell shaped bound start size n) (m : Small s) (h : o < length s) (g : ℕ) (eg : g ≡ group (byteAt s o)) where
@@ -111,9 +111,9 @@ module _ (s : List ℕ) (o : ℕ) (shape cell shaped bound start size : List ℕ
       kept : (g ≡ f → ⊥) → Filled d most entry (groupOf s f) (ahead s f o) i arr → Filled d most entry (groupOf s f) (ahead s f p) i arr
       kept e x = rw ep (rw (miss f e) at x)
 
-      pushed : g ≡ f → length (groupOf s f) ≤ most → (x : A) → x ≡ entry o → Filled d most entry (groupOf s f) (ahead s f o) i arr
-          → Filled d most entry (groupOf s f) (ahead s f p) (i + 1) (set arr i x)
-      pushed e l x ex y = rw (ep, ex) (fill-push d most entry (groupOf s f) (ahead s f (next s o)) i arr o l (rw (hit f e) at y))
+      pushed : g ≡ f → length (groupOf s f) ≤ most → (after : List A) → after ≡ set arr i (entry o) → Filled d most entry (groupOf s f) (ahead s f o) i arr
+          → Filled d most entry (groupOf s f) (ahead s f p) (i + 1) after
+      pushed e l after ea y = rw (ep, ea) (fill-push d most entry (groupOf s f) (ahead s f (next s o)) i arr o l (rw (hit f e) at y))
 
     keep-shapes : (g ≡ 2 → ⊥) → Tabled s (groupOf s 2) (ahead s 2 p) (n .shapes) shape
     keep-shapes e = rw ep (rw (miss 2 e) at (k .shapes))
@@ -137,17 +137,16 @@ module _ (s : List ℕ) (o : ℕ) (shape cell shaped bound start size : List ℕ
           few = few-next;
         }
 
-    pub gather-cell : (x : ℕ) → g ≡ 3 → x ≡ byteAt s (o + 1)
-        → Gathered s p shape (set cell (n .cells) o) (set shaped (n .cells) x) bound start size
-        (record { shapes = n .shapes; cells = n .cells + 1; blocks = n .blocks; steps = n .steps })
-    gather-cell x e ex =
+    pub gather-cell : (cell′ shaped′ : List ℕ) → g ≡ 3 → cell′ ≡ set cell (n .cells) o → shaped′ ≡ set shaped (n .cells) (byteAt s (o + 1))
+        → Gathered s p shape cell′ shaped′ bound start size (record { shapes = n .shapes; cells = n .cells + 1; blocks = n .blocks; steps = n .steps })
+    gather-cell cell′ shaped′ e ec es =
         let b = other 3 4 e (λ z. omega arith) in
         record {
           inside = inside-next;
           whole = whole-next;
           shapes = keep-shapes (other 3 2 e (λ z. omega arith));
-          cells = pushed 0 32 same 3 _ _ e (most-cells s (m .few)) o refl (k .cells);
-          owners = pushed 0 32 (shapedAt s) 3 _ _ e (most-cells s (m .few)) x ex (k .owners);
+          cells = pushed 0 32 same 3 _ _ e (most-cells s (m .few)) _ ec (k .cells);
+          owners = pushed 0 32 (shapedAt s) 3 _ _ e (most-cells s (m .few)) _ es (k .owners);
           bounds = kept 0 64 (boundAt s) 4 _ _ b (k .bounds);
           starts = kept 0 64 startAt 4 _ _ b (k .starts);
           sizes = kept 0 64 (lengthAt s) 4 _ _ b (k .sizes);
@@ -187,17 +186,14 @@ module _ (s : List ℕ) (o : ℕ) (shape cell shaped bound start size : List ℕ
       past : (f : ℕ) → (f ≡ 5 → ⊥) → ahead s f p ≡ ahead s f (r .at)
       past f d = those-past s f d p whole-next inside-next ∙ ap (ahead s f) (sym end-is)
 
+      pub block-before : o ≤ p
+      block-before = omega (arith, two)
+
       pub block-after : p ≤ r .at
       block-after = omega (arith, steps-behind .bytes, end-is)
 
-      block-inside : r .at ≤ 32768
+      pub block-inside : r .at ≤ 32768
       block-inside = omega (arith, steps-behind .inside, end-is, m .short)
-
-      pub start-word : Fits w16 p
-      start-word = record { fits = omega (arith, block-inside, block-after) }
-
-      pub length-word : Fits w16 (r .at - p)
-      length-word = record { fits = omega (arith, block-inside) }
 
       steps-fit : n .steps + r .count ≤ r .at
       steps-fit = omega (arith, steps-behind .bytes, end-is, count-is, two, k .few)
@@ -221,10 +217,11 @@ module _ (s : List ℕ) (o : ℕ) (shape cell shaped bound start size : List ℕ
       unfolding lengthAt
       length-is = rw (end-is, two) refl
 
-      pub gather-block : (x : ℕ) → x ≡ byteAt s (o + 1)
-          → Gathered s (r .at) shape cell shaped (set bound (n .blocks) x) (set start (n .blocks) p) (set size (n .blocks) (r .at - p))
+      pub gather-block : (bound′ start′ size′ : List ℕ) → bound′ ≡ set bound (n .blocks) (byteAt s (o + 1)) → start′ ≡ set start (n .blocks) p
+          → size′ ≡ set size (n .blocks) (r .at - p)
+          → Gathered s (r .at) shape cell shaped bound′ start′ size′
           (record { shapes = n .shapes; cells = n .cells; blocks = n .blocks + 1; steps = n .steps + r .count })
-      gather-block x ex =
+      gather-block bound′ start′ size′ eb es el =
           let c = other 4 3 e (λ z. omega arith) in
           let l = most-blocks s (m .few) in
           record {
@@ -233,19 +230,18 @@ module _ (s : List ℕ) (o : ℕ) (shape cell shaped bound start size : List ℕ
             shapes = rw (past 2 (λ z. omega arith)) at (keep-shapes (other 4 2 e (λ z. omega arith)));
             cells = rw (past 3 (λ z. omega arith)) at (kept 0 32 same 3 _ _ c (k .cells));
             owners = rw (past 3 (λ z. omega arith)) at (kept 0 32 (shapedAt s) 3 _ _ c (k .owners));
-            bounds = rw (past 4 (λ z. omega arith)) at (pushed 0 64 (boundAt s) 4 _ _ e l x ex (k .bounds));
-            starts = rw (past 4 (λ z. omega arith)) at (pushed 0 64 startAt 4 _ _ e l p two (k .starts));
-            sizes = rw (past 4 (λ z. omega arith)) at (pushed 0 64 (lengthAt s) 4 _ _ e l (r .at - p) length-is (k .sizes));
+            bounds = rw (past 4 (λ z. omega arith)) at (pushed 0 64 (boundAt s) 4 _ _ e l _ eb (k .bounds));
+            starts = rw (past 4 (λ z. omega arith)) at (pushed 0 64 startAt 4 _ _ e l _ (es ∙ ap (set start (n .blocks)) two) (k .starts));
+            sizes = rw (past 4 (λ z. omega arith)) at (pushed 0 64 (lengthAt s) 4 _ _ e l _ (el ∙ ap (set size (n .blocks)) length-is) (k .sizes));
             steps = counted-on;
             few = steps-fit;
           }
 
 -- the end of the book
-pub gather-end : (s : List ℕ) (o : ℕ) (shape cell shaped bound start size : List ℕ) (n : Counts) (b : ℕ)
-    → Gathered s o shape cell shaped bound start size n → length s ≤ o → b ≡ byteAt s 1
-    → record { c = label b; counts = n; shape = shape; cell = cell; shaped = shaped; bound = bound; start = start; length = size } ≡ outlineOf s
+pub gather-end : (s : List ℕ) (o : ℕ) (shape cell shaped bound start size : List ℕ) (n : Counts)
+    → Gathered s o shape cell shaped bound start size n → length s ≤ o → drawn s n shape cell shaped bound start size ≡ outlineOf s
 unfolding outlineOf those stepCount
-gather-end s o shape cell shaped bound start size n b k h eb =
+gather-end s o shape cell shaped bound start size n k h =
     let none : (f : ℕ) → ahead s f o ≡ [] = λ f. ap (those (inGroup s f)) (records-end s o h) in
     let x = table-end s (groupOf s 2) [] (n .shapes) shape (rw (none 2) at (k .shapes)) in
     let y = fill-end 0 32 same (groupOf s 3) [] (n .cells) cell (rw (none 3) at (k .cells)) in
@@ -255,8 +251,13 @@ gather-end s o shape cell shaped bound start size n b k h eb =
     let w = fill-end 0 64 (lengthAt s) (groupOf s 4) [] (n .blocks) size (rw (none 4) at (k .sizes)) in
     let i : map same (groupOf s 3) ≡ groupOf s 3 = map-id (groupOf s 3) in
     let q : n .steps ≡ stepCount s (groupOf s 4) = omega (arith, rw (none 4) at (k .steps)) in
-    simp (eb, x .0, y .0, u .0, z .0, v .0, w .0, i, ← q, ← x .1, ← y .1, ← z .1)
+    simp (x .0, y .0, u .0, z .0, v .0, w .0, i, ← q, ← x .1, ← y .1, ← z .1)
+
+-- b is the byte that says C
+pub outline-drawn : (s shape cell shaped bound start size : List ℕ) (n : Counts) (b : ℕ) → drawn s n shape cell shaped bound start size ≡ outlineOf s → b ≡ byteAt s 1
+    → record { c = label b; counts = n; shape = shape; cell = cell; shaped = shaped; bound = bound; start = start; length = size } ≡ outlineOf s
+outline-drawn s shape cell shaped bound start size n b e eb = rw eb e
 
 pub ruleset gathers = (gather-start, gather-shape, gather-cell, gather-other, gather-block, gather-end)
 
-pub ruleset rooms = (shape-room, shape-sized, cell-room, block-room, block-after, start-word, length-word, steps-word, block-falls)
+pub ruleset rooms = (shape-room, shape-sized, cell-room, block-room, block-before, block-after, block-inside, steps-word, block-falls)

@@ -3,6 +3,7 @@
 --     limit              the largest value of a field of a kind; 255 where any byte will do
 --     Small              a book that refusals 1, 2 and 4 do not hold of
 --     Outlined           the outline of such a book
+--     Blank, drawn       an outline's tables: zero; and what they make
 --     cellKind           by the table of shapes, whether a shape is a cell shape
 --     skipped            where the steps from an offset on end, and how many they are
 -- Assumes nothing.
@@ -11,13 +12,15 @@ use mathlib.Core.List.{List}
 use Prim.Native.Nat.{ℕ, _≤_}
 use mathlib.Core.Bool.{Bool}
 use lib.Dec.{eqb}
-use lib.ListN.{length, getD}
+use lib.ListN.{length, getD, replicate}
+use Rattle.labels.specs.Labels.{label}
 use Rattle.book.specs.declared.Fault.the-variants.{Nowhere}
+use Rattle.book.specs.declared.Counts.{Counts}
 use Rattle.book.specs.declared.Outline.{Outline}
 use Rattle.book.specs.declared.Skipped.{Skipped}
 use Rattle.book.specs.Control.{first}
 use Rattle.book.specs.Kinds.{limits}
-use Rattle.book.specs.Records.{cut, recordsFrom}
+use Rattle.book.specs.Records.{byteAt, cut, recordsFrom}
 use Rattle.book.specs.Book.{stepsFrom}
 use Rattle.book.specs.Refusals.{countFault}
 use Rattle.book.specs.Outline.{stepsEnd, shapeIn, outlineOf}
@@ -45,3 +48,16 @@ cellKind table i = eqb (shapeIn table i .kind) 18
 pub record Outlined (s : List ℕ) (t : Outline) : Type 0 where
   pub small : Small s
   pub is : t ≡ outlineOf s
+
+-- an outline's tables before any record, and the outline that they make
+pub record Blank (shape cell shaped bound start size : List ℕ) : Type 0 where
+  pub shapes : shape ≡ replicate 128 0
+  pub cells : cell ≡ replicate 32 0
+  pub owners : shaped ≡ replicate 32 0
+  pub bounds : bound ≡ replicate 64 0
+  pub starts : start ≡ replicate 64 0
+  pub sizes : size ≡ replicate 64 0
+
+abbrev pub drawn : List ℕ → Counts → List ℕ → List ℕ → List ℕ → List ℕ → List ℕ → List ℕ → Outline
+drawn s n shape cell shaped bound start size =
+    record { c = label (byteAt s 1); counts = n; shape = shape; cell = cell; shaped = shaped; bound = bound; start = start; length = size }

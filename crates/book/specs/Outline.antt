@@ -9,6 +9,7 @@ use mathlib.Core.List.{List, [], _∷_, _++_, map}
 use lib.ListN.{length, replicate}
 use Rattle.labels.specs.Labels.{label, trust}
 use Rattle.book.specs.declared.Shape.{Shape}
+use Rattle.book.specs.declared.Counts.{Counts}
 use Rattle.book.specs.declared.Outline.{Outline}
 use Rattle.book.specs.declared.Refusal.{Refusal}
 use Rattle.book.specs.declared.Refusal.the-variants.{Passed, Refused}
@@ -77,12 +78,15 @@ outlineOf s =
       length = pad 64 0 (map (lengthAt s) (blocksOf s));
     }
 
+abbrev pub noCounts : Counts
+noCounts = record { shapes = 0; cells = 0; blocks = 0; steps = 0 }
+
 -- what a refusal hands back
 unfoldable pub noOutline : Outline
 noOutline =
     record {
       c = label 0;
-      counts = record { shapes = 0; cells = 0; blocks = 0; steps = 0 };
+      counts = noCounts;
       shape = replicate 128 0;
       cell = replicate 32 0;
       shaped = replicate 32 0;

@@ -12,7 +12,7 @@ pub use decode::step_at;
 use labels::Label;
 use labels::Trust;
 ghost use mathlib.Core.Path.{_≡_};
-ghost use Rattle.book.specs.Outline.{noOutline, refusedReading, reading};
+ghost use Rattle.book.specs.Outline.{noCounts, noOutline, refusedReading, reading};
 ghost use Rattle.book.specs.Stretch.{lost, foundBlock, stretch};
 
 // A step of a block, its fields in the record's order.
@@ -126,8 +126,21 @@ pub enum CellAt {
     CellThere(Declared),
 }
 
+impl Counts {
+    fn none() -> Counts
+        ensures { λ r. ⌜ r ≡ noCounts ⌝ }
+    {
+        Counts {
+            shapes: 0,
+            cells: 0,
+            blocks: 0,
+            steps: 0,
+        }
+    }
+}
+
 impl Outline {
-    // All zero: what a refusal hands back.
+    // All zero: what a refusal hands back. The counts are written out: with a call for them LLVM copies each outline once more.
     fn empty() -> Outline
         ensures { λ r. ⌜ r ≡ noOutline ⌝ }
     {

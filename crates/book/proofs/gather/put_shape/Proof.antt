@@ -1,6 +1,4 @@
 -- `gather::put_shape` meets its contract. Assumes nothing.
-use native.Mathlib.Omega.{arith}
-use lib.ListN.{length-set}
 use borrow.Author.Needs.{needs}
 use Rattle.book.proofs.ShapeTable.{shape-put}
 use Rattle.book.proofs.gather.put_shape.Tie as tie
@@ -9,29 +7,26 @@ use Rattle.book.proofs.gather.put_shape.Statement.{statement}
 mul-at : tie.Need-mul-at
 mul-at c = search needs
 
-slice-write-table : tie.Need-slice-write-table
-slice-write-table c = search needs
+element-write-table : tie.Need-element-write-table
+element-write-table c = search needs
 
 add-table : tie.Need-add-table
 add-table c = search needs
 
-slice-write-table-2 : tie.Need-slice-write-table-2
-slice-write-table-2 c = simp length-set (omega arith)
+element-write-table-2 : tie.Need-element-write-table-2
+element-write-table-2 c = search needs
 
 add-table-2 : tie.Need-add-table-2
 add-table-2 c = search needs
 
-slice-write-table-3 : tie.Need-slice-write-table-3
-slice-write-table-3 c = simp length-set (omega arith)
+element-write-table-3 : tie.Need-element-write-table-3
+element-write-table-3 c = search needs
 
 add-table-3 : tie.Need-add-table-3
 add-table-3 c = search needs
 
-slice-write-table-4 : tie.Need-slice-write-table-4
-slice-write-table-4 c = simp length-set (omega arith)
-
-same-length : tie.Need-same-length
-same-length c = search needs
+element-write-table-4 : tie.Need-element-write-table-4
+element-write-table-4 c = search needs
 
 returns : tie.Need-returns
 returns c = search shape-put
@@ -41,12 +36,11 @@ put-shape-spec =
     tie.close
     (tie.spec
     mul-at
-    slice-write-table
+    element-write-table
     add-table
-    slice-write-table-2
+    element-write-table-2
     add-table-2
-    slice-write-table-3
+    element-write-table-3
     add-table-3
-    slice-write-table-4
-    same-length
+    element-write-table-4
     returns)
