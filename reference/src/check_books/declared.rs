@@ -1,7 +1,7 @@
 //! Refusal 7: "A declared cell of trust above C needs label at least trust and a fitting value.
 //! Others need nothing."
 
-use super::scene::{levels, pairs, Scene, Value, COMPROMISED};
+use super::scene::{all_pairs, levels, pairs, Scene, Value, COMPROMISED};
 use crate::generate::Bytes;
 
 pub fn books() -> Vec<Bytes> {
@@ -109,11 +109,9 @@ const NAMED: [(u8, u8); 6] = [(0, 1), (1, 1), (2, 1), (1, 0), (1, 2), (2, 2)];
 /// own content.
 fn references() -> Vec<Bytes> {
     let mut books = Vec::new();
-    for c in COMPROMISED {
-        for [inner, outer] in pairs(c) {
-            let named = NAMED.into_iter();
-            books.extend(named.map(|(first, last)| three_cells(c, inner, outer, first, last)));
-        }
+    for (c, [inner, outer]) in all_pairs() {
+        let named = NAMED.into_iter();
+        books.extend(named.map(|(first, last)| three_cells(c, inner, outer, first, last)));
     }
     books
 }

@@ -1,7 +1,7 @@
 //! "new: low trust passes; otherwise an earlier lower must stand in the block, the content fits,
 //! and trust is at most its used effect. Result effect P."
 
-use super::scene::{levels, pairs, triples, Scene, Value, COMPROMISED};
+use super::scene::{all_pairs, all_triples, code_scenes, levels, Scene, Value, COMPROMISED};
 use crate::generate::records::{code, lower, name, new, put, read, write, Draft};
 use crate::generate::Bytes;
 
@@ -19,19 +19,17 @@ pub fn books() -> Vec<Bytes> {
 /// The label lowered to, the trust, and the content's effect, read before or after the lower.
 fn effects() -> Vec<Bytes> {
     let mut books = Vec::new();
-    for c in COMPROMISED {
-        for [label, trust, effect] in triples(c) {
-            let mut scene = Scene::new(c);
-            let made = scene.plain_cell(trust);
-            let source = scene.plain_cell(effect);
-            let cell = scene.top(source, Value::Plain);
-            let (get, make) = ([name(0, cell), read(1, 0)].concat(), new(2, made, 1));
-            let after = [get.clone(), lower(label), make.clone()];
-            books.push(scene.with_block(15, &after).book());
-            if effect > c {
-                let before = [lower(label), get, make];
-                books.push(scene.with_block(15, &before).book());
-            }
+    for (c, [label, trust, effect]) in all_triples() {
+        let mut scene = Scene::new(c);
+        let made = scene.plain_cell(trust);
+        let source = scene.plain_cell(effect);
+        let cell = scene.top(source, Value::Plain);
+        let (get, make) = ([name(0, cell), read(1, 0)].concat(), new(2, made, 1));
+        let after = [get.clone(), lower(label), make.clone()];
+        books.push(scene.with_block(15, &after).book());
+        if effect > c {
+            let before = [lower(label), get, make];
+            books.push(scene.with_block(15, &before).book());
         }
     }
     books
@@ -40,10 +38,8 @@ fn effects() -> Vec<Bytes> {
 /// The lower before, behind, between other steps, doubled, or in another block.
 fn with_and_without_lower() -> Vec<Bytes> {
     let mut books = Vec::new();
-    for c in COMPROMISED {
-        for [bound, trust] in pairs(c) {
-            books.extend(around_new(c, bound, trust));
-        }
+    for (c, [bound, trust]) in all_pairs() {
+        books.extend(around_new(c, bound, trust));
     }
     books
 }
@@ -69,19 +65,11 @@ fn around_new(c: u8, bound: u8, trust: u8) -> Vec<Bytes> {
 
 /// "A code register of bound B fits a code content of bound at most B."
 fn code_bounds() -> Vec<Bytes> {
-    let mut books = Vec::new();
-    for c in COMPROMISED {
-        for [content, bound] in pairs(c) {
-            for trust in [c, c + 1] {
-                let mut scene = Scene::new(c);
-                let content = scene.code(content);
-                let shape = scene.cell_of(content, trust);
-                let steps = [lower(15), code(0, 1), new(1, shape, 0)];
-                books.push(scene.with_block(15, &steps).with_block(bound, &[]).book());
-            }
-        }
-    }
-    books
+    let made = |(scene, shape, bound): (Scene, u8, u8)| {
+        let steps = [lower(15), code(0, 1), new(1, shape, 0)];
+        scene.with_block(15, &steps).with_block(bound, &[]).book()
+    };
+    code_scenes().into_iter().map(made).collect()
 }
 
 /// Every kind of content for every kind of content shape, with and without a lower.
@@ -121,17 +109,15 @@ fn of_kinds(c: u8, trust: u8, content: u8, register: u8, lowered: bool) -> Bytes
 /// A made cell stored in a cell of cells: its effect is P, whatever its trust.
 fn results() -> Vec<Bytes> {
     let mut books = Vec::new();
-    for c in COMPROMISED {
-        for [label, trust, outer] in triples(c) {
-            let mut scene = Scene::new(c);
-            let shape = scene.plain_cell(trust);
-            let outer = scene.cell_of(shape, outer);
-            let inside = scene.top(shape, Value::Plain);
-            let target = scene.top(outer, Value::Cell(inside));
-            let make = [lower(label), new(2, shape, 0)].concat();
-            let steps = [make, name(3, target), write(3, 2)];
-            books.push(scene.with_block(15, &steps).book());
-        }
+    for (c, [label, trust, outer]) in all_triples() {
+        let mut scene = Scene::new(c);
+        let shape = scene.plain_cell(trust);
+        let outer = scene.cell_of(shape, outer);
+        let inside = scene.top(shape, Value::Plain);
+        let target = scene.top(outer, Value::Cell(inside));
+        let make = [lower(label), new(2, shape, 0)].concat();
+        let steps = [make, name(3, target), write(3, 2)];
+        books.push(scene.with_block(15, &steps).book());
     }
     books
 }

@@ -1,7 +1,7 @@
 //! "exec: the content is code with bound at least P, and S at least P." "start: the block's
 //! bound is at least P."
 
-use super::scene::{pairs, triples, Scene, Value, COMPROMISED};
+use super::scene::{all_pairs, pairs, triples, Scene, Value, COMPROMISED};
 use crate::generate::records::{code, exec, lower, name, new, start};
 use crate::generate::Bytes;
 
@@ -68,20 +68,18 @@ fn made_execs() -> Vec<Bytes> {
 /// exec of plain and cell contents, and through registers that are no cell.
 fn other_contents() -> Vec<Bytes> {
     let mut books = Vec::new();
-    for c in COMPROMISED {
-        for [p, trust] in pairs(c) {
-            let mut scene = Scene::new(c);
-            let plain = scene.plain_cell(trust);
-            let nested = scene.cell_of(plain, trust);
-            let cells = [
-                scene.top(plain, Value::Plain),
-                scene.top(nested, Value::Cell(0)),
-            ];
-            for cell in cells {
-                books.push(scene.with_block(p, &[name(0, cell), exec(0)]).book());
-            }
-            books.push(scene.with_block(p, &[code(0, 0), exec(0)]).book());
+    for (c, [p, trust]) in all_pairs() {
+        let mut scene = Scene::new(c);
+        let plain = scene.plain_cell(trust);
+        let nested = scene.cell_of(plain, trust);
+        let cells = [
+            scene.top(plain, Value::Plain),
+            scene.top(nested, Value::Cell(0)),
+        ];
+        for cell in cells {
+            books.push(scene.with_block(p, &[name(0, cell), exec(0)]).book());
         }
+        books.push(scene.with_block(p, &[code(0, 0), exec(0)]).book());
     }
     books
 }
@@ -105,12 +103,10 @@ fn starts() -> Vec<Bytes> {
 /// A lower makes room for blocks of a lesser bound.
 fn lowered_starts() -> Vec<Bytes> {
     let mut books = Vec::new();
-    for c in COMPROMISED {
-        for [p, bound] in pairs(c) {
-            let steps = [start(0), lower(p), start(0), start(1)];
-            let scene = Scene::new(c).with_block(15, &steps);
-            books.push(scene.with_block(bound, &[]).book());
-        }
+    for (c, [p, bound]) in all_pairs() {
+        let steps = [start(0), lower(p), start(0), start(1)];
+        let scene = Scene::new(c).with_block(15, &steps);
+        books.push(scene.with_block(bound, &[]).book());
     }
     books
 }

@@ -134,6 +134,33 @@ pub fn pairs(c: u8) -> Vec<[u8; 2]> {
     levels.iter().copied().flat_map(pair).collect()
 }
 
+/// Each C with each of its triples.
+pub fn all_triples() -> Vec<(u8, [u8; 3])> {
+    let with = |c: u8| triples(c).into_iter().map(move |labels| (c, labels));
+    COMPROMISED.into_iter().flat_map(with).collect()
+}
+
+/// Each C with each of its pairs.
+pub fn all_pairs() -> Vec<(u8, [u8; 2])> {
+    let with = |c: u8| pairs(c).into_iter().map(move |labels| (c, labels));
+    COMPROMISED.into_iter().flat_map(with).collect()
+}
+
+/// Scenes with a cell shape of code, its trust just low or just high: each with that shape and
+/// the bound that a block is to have.
+pub fn code_scenes() -> Vec<(Scene, u8, u8)> {
+    let mut scenes = Vec::new();
+    for (c, [content, bound]) in all_pairs() {
+        for trust in [c, c + 1] {
+            let mut scene = Scene::new(c);
+            let content = scene.code(content);
+            let shape = scene.cell_of(content, trust);
+            scenes.push((scene, shape, bound));
+        }
+    }
+    scenes
+}
+
 /// How many breakers there are.
 pub const BREAKERS: usize = 7;
 

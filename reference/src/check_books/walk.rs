@@ -6,7 +6,7 @@ use crate::generate::records::{
     add, block, c, cell, cell_shape, code, code_shape, exec, lower, name, new, plain_shape, put,
     read, relabel, start, write, Draft,
 };
-use crate::generate::valid::{size, Size};
+use crate::generate::valid::{of_sizes, size, Size};
 use crate::generate::Bytes;
 use crate::typing::{Outcome, Rules, State};
 
@@ -21,12 +21,7 @@ const SIZES: [(usize, Size); 6] = [
 ];
 
 pub fn books() -> Vec<Bytes> {
-    let mut dice = Dice::new(0x5EED_0010);
-    let mut books = Vec::new();
-    for (count, size) in SIZES {
-        books.extend((0..count).map(|_| draft(&mut dice, size).concat()));
-    }
-    books
+    of_sizes(&mut Dice::new(0x5EED_0010), &SIZES, draft)
 }
 
 /// A book by chance of at most this size.

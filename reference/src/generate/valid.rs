@@ -37,9 +37,18 @@ pub const fn size(shapes: usize, cells: usize, blocks: usize, steps: usize) -> S
 
 pub fn books() -> Vec<Bytes> {
     let mut dice = Dice::new(0x5EED_0001);
-    let mut books = fixed();
-    for (count, size) in SIZES {
-        books.extend((0..count).map(|_| draft(&mut dice, size).concat()));
+    [fixed(), of_sizes(&mut dice, &SIZES, draft)].concat()
+}
+
+/// So many books of each size.
+pub fn of_sizes(
+    dice: &mut Dice,
+    sizes: &[(usize, Size)],
+    draft: fn(&mut Dice, Size) -> Draft,
+) -> Vec<Bytes> {
+    let mut books = Vec::new();
+    for &(count, size) in sizes {
+        books.extend((0..count).map(|_| draft(dice, size).concat()));
     }
     books
 }
