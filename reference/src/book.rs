@@ -61,6 +61,23 @@ pub enum Step {
 }
 
 impl Step {
+    /// The kind byte of its record.
+    pub fn kind(self) -> u8 {
+        match self {
+            Step::Put { .. } => 64,
+            Step::Name { .. } => 65,
+            Step::Code { .. } => 66,
+            Step::Add { .. } => 67,
+            Step::New { .. } => 68,
+            Step::Read { .. } => 69,
+            Step::Write { .. } => 70,
+            Step::Relabel { .. } => 71,
+            Step::Lower { .. } => 72,
+            Step::Start { .. } => 73,
+            Step::Exec { .. } => 74,
+        }
+    }
+
     /// The length of its record: "one byte of kind, then a body".
     pub fn size(self) -> usize {
         match self {
@@ -129,7 +146,7 @@ pub fn stretch(bytes: &[u8], number: usize) -> Result<(usize, usize), Refusal> {
     }
 }
 
-fn refuse<T>(number: u8, place: usize) -> Result<T, Refusal> {
+pub(crate) fn refuse<T>(number: u8, place: usize) -> Result<T, Refusal> {
     Err(Refusal { number, place })
 }
 

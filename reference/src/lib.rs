@@ -7,7 +7,9 @@ pub mod checksum;
 pub mod file;
 pub mod generate;
 pub mod large;
+pub mod machine;
 pub mod typing;
 
 pub use large::{full_book, mixed_book};
+pub use machine::run;
 pub use typing::{check, Verdict};
