@@ -10,12 +10,12 @@ mod places;
 mod reading;
 mod results;
 mod running;
-mod scene;
+pub(crate) mod scene;
 mod stuck;
 #[cfg(test)]
 mod tests;
 mod unreadable;
-mod walk;
+pub(crate) mod walk;
 mod writing;
 
 use crate::generate::{samples, Bytes};

@@ -6,27 +6,36 @@ use std::io;
 pub fn join(books: &[Vec<u8>]) -> Vec<u8> {
     let mut bytes = Vec::new();
     for book in books {
-        bytes.extend_from_slice(&(book.len() as u32).to_le_bytes());
-        bytes.extend_from_slice(book);
+        push(&mut bytes, book);
     }
     bytes
+}
+
+/// Appends one part: its length, then its bytes.
+pub fn push(bytes: &mut Vec<u8>, part: &[u8]) {
+    bytes.extend_from_slice(&(part.len() as u32).to_le_bytes());
+    bytes.extend_from_slice(part);
 }
 
 /// The books in the file, in order.
 pub fn split(mut bytes: &[u8]) -> io::Result<Vec<&[u8]>> {
     let mut books = Vec::new();
     while !bytes.is_empty() {
-        let (book, rest) = first(bytes).ok_or_else(|| io::Error::other("the file is cut"))?;
+        let (book, rest) = first(bytes).ok_or_else(cut)?;
         books.push(book);
         bytes = rest;
     }
     Ok(books)
 }
 
-/// The first book and the bytes behind it, unless the file ends inside it.
-fn first(bytes: &[u8]) -> Option<(&[u8], &[u8])> {
+/// The first part and the bytes behind it, unless the file ends inside it.
+pub fn first(bytes: &[u8]) -> Option<(&[u8], &[u8])> {
     let (length, rest) = bytes.split_first_chunk::<4>()?;
     rest.split_at_checked(u32::from_le_bytes(*length) as usize)
+}
+
+pub fn cut() -> io::Error {
+    io::Error::other("the file is cut")
 }
 
 #[cfg(test)]

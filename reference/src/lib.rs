@@ -8,6 +8,7 @@ pub mod file;
 pub mod generate;
 pub mod large;
 pub mod machine;
+pub mod runs;
 pub mod typing;
 
 pub use large::{full_book, mixed_book};

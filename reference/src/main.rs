@@ -4,9 +4,11 @@
 //! `reference read` reads such a file on standard input and prints one line per book.
 //! `reference check-books` writes the file of test books for checking.
 //! `reference verdict` reads such a file on standard input and prints one verdict per book.
+//! `reference runs` writes the file of test runs.
+//! `reference run-answers` reads such a file on standard input and prints one line per run.
 //! `reference check FILE` prints the verdict on the one book in a file.
 
-use reference::{answer, check, check_books, file, generate};
+use reference::{answer, check, check_books, file, generate, runs};
 use std::ffi::OsString;
 use std::fmt::Display;
 use std::io::{self, Read, Write};
@@ -30,9 +32,11 @@ fn run(command: Option<OsString>, path: Option<OsString>) -> io::Result<()> {
         (Some("read"), _) => print_lines(answer::line),
         (Some("check-books"), _) => write_books(&check_books::books()),
         (Some("verdict"), _) => print_lines(|_, book| check(book)),
+        (Some("runs"), _) => io::stdout().write_all(&runs::file::join(&runs::all())),
+        (Some("run-answers"), _) => print_answers(),
         (Some("check"), Some(path)) => print_verdict(path),
         _ => Err(io::Error::other(
-            "usage: reference books | read | check-books | verdict | check FILE",
+            "usage: reference books | read | check-books | verdict | runs | run-answers | check FILE",
         )),
     }
 }
@@ -41,13 +45,27 @@ fn write_books(books: &[Vec<u8>]) -> io::Result<()> {
     io::stdout().write_all(&file::join(books))
 }
 
-/// One line for each book in the file on standard input.
-fn print_lines<T: Display>(line: impl Fn(usize, &[u8]) -> T) -> io::Result<()> {
+fn standard_input() -> io::Result<Vec<u8>> {
     let mut bytes = Vec::new();
     io::stdin().read_to_end(&mut bytes)?;
+    Ok(bytes)
+}
+
+/// One line for each book in the file on standard input.
+fn print_lines<T: Display>(line: impl Fn(usize, &[u8]) -> T) -> io::Result<()> {
+    let bytes = standard_input()?;
     let mut out = io::BufWriter::new(io::stdout().lock());
     for (index, book) in file::split(&bytes)?.into_iter().enumerate() {
         writeln!(out, "{}", line(index, book))?;
+    }
+    out.flush()
+}
+
+/// One line for each run in the file on standard input.
+fn print_answers() -> io::Result<()> {
+    let mut out = io::BufWriter::new(io::stdout().lock());
+    for run in runs::file::split(&standard_input()?)? {
+        writeln!(out, "{}", runs::answer::line(&run))?;
     }
     out.flush()
 }
