@@ -4,6 +4,7 @@ pub mod answer;
 pub mod book;
 pub mod check_books;
 pub mod checksum;
+pub mod differ;
 pub mod file;
 pub mod generate;
 pub mod large;

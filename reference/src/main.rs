@@ -6,13 +6,17 @@
 //! `reference verdict` reads such a file on standard input and prints one verdict per book.
 //! `reference runs` writes the file of test runs.
 //! `reference run-answers` reads such a file on standard input and prints one line per run.
+//! `reference differ N` compares the two machines of the reference on N runs by chance.
 //! `reference check FILE` prints the verdict on the one book in a file.
 
-use reference::{answer, check, check_books, file, generate, runs};
+use reference::{answer, check, check_books, differ, file, generate, machine, runs};
 use std::ffi::OsString;
 use std::fmt::Display;
 use std::io::{self, Read, Write};
 use std::process::ExitCode;
+
+const USAGE: &str = "usage: reference books | read | check-books | verdict | runs | run-answers
+       | differ N | check FILE";
 
 fn main() -> ExitCode {
     let mut arguments = std::env::args_os().skip(1);
@@ -34,10 +38,9 @@ fn run(command: Option<OsString>, path: Option<OsString>) -> io::Result<()> {
         (Some("verdict"), _) => print_lines(|_, book| check(book)),
         (Some("runs"), _) => io::stdout().write_all(&runs::file::join(&runs::all())),
         (Some("run-answers"), _) => print_answers(),
+        (Some("differ"), Some(count)) => print_difference(count),
         (Some("check"), Some(path)) => print_verdict(path),
-        _ => Err(io::Error::other(
-            "usage: reference books | read | check-books | verdict | runs | run-answers | check FILE",
-        )),
+        _ => Err(io::Error::other(USAGE)),
     }
 }
 
@@ -68,6 +71,21 @@ fn print_answers() -> io::Result<()> {
         writeln!(out, "{}", runs::answer::line(&run))?;
     }
     out.flush()
+}
+
+/// The seed of the runs by chance.
+const SEED: u64 = 0x5EED_0040;
+
+fn print_difference(count: OsString) -> io::Result<()> {
+    let number = count.to_str().and_then(|word| word.parse().ok());
+    let count = number.ok_or_else(|| io::Error::other(USAGE))?;
+    match differ::differ(SEED, count, machine::run, machine::fast::run) {
+        Some(difference) => Err(io::Error::other(format!("{difference:?}"))),
+        None => {
+            println!("{count} runs, no difference");
+            Ok(())
+        }
+    }
 }
 
 fn print_verdict(path: OsString) -> io::Result<()> {

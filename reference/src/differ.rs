@@ -1,0 +1,112 @@
+//! Runs by chance, compared between two implementations.
+
+use crate::generate::dice::Dice;
+use crate::generate::Bytes;
+use crate::machine::Outcome;
+use crate::runs::answer::{outcome, Lent, Runner};
+use crate::runs::chance::{any_book, events};
+use crate::runs::lively::Most;
+use crate::runs::{Run, LONGEST};
+
+/// A run on which the two differ, its number from 0, and what each gives.
+#[derive(Debug)]
+pub struct Difference {
+    pub number: usize,
+    pub run: Run,
+    pub one: (Outcome, Lent),
+    pub other: (Outcome, Lent),
+}
+
+/// The first difference in so many runs. The seed must not be 0.
+pub fn differ(seed: u64, count: usize, one: Runner, other: Runner) -> Option<Difference> {
+    let mut dice = Dice::new(seed);
+    (0..count).find_map(|number| {
+        let run = any_run(&mut dice, number);
+        let (one, other) = (outcome(one, &run), outcome(other, &run));
+        (one != other).then_some(Difference {
+            number,
+            run,
+            one,
+            other,
+        })
+    })
+}
+
+const MOST: Most = Most {
+    cells: 6,
+    blocks: 5,
+    steps: 12,
+};
+
+/// Mostly a run that is not refused.
+fn any_run(dice: &mut Dice, number: usize) -> Run {
+    let mut book = any_book(dice, number, MOST);
+    let count = match dice.below(20) {
+        0 => dice.below(400),
+        _ => dice.below(60),
+    };
+    let mut events = events(dice, &book, count);
+    match dice.below(40) {
+        0 => change(dice, &mut events),
+        1 => change(dice, &mut book),
+        _ => {}
+    }
+    let run = Run::new(book, events);
+    match dice.below(40) {
+        0 => run.with(any_lengths(dice, run.lengths)),
+        _ => run.with_spare(dice.below(3)),
+    }
+}
+
+/// A byte changed, removed or put in, or the end cut off.
+fn change(dice: &mut Dice, bytes: &mut Bytes) {
+    let place = dice.below(bytes.len() + 1);
+    match dice.below(4) {
+        0 => bytes.truncate(place),
+        1 => bytes.insert(place, dice.byte()),
+        2 if place < bytes.len() => bytes[place] = dice.byte(),
+        _ if place < bytes.len() => drop(bytes.remove(place)),
+        _ => {}
+    }
+}
+
+/// The lengths with one of them changed.
+fn any_lengths(dice: &mut Dice, mut lengths: [usize; 3]) -> [usize; 3] {
+    let which = dice.below(3);
+    lengths[which] = match dice.below(3) {
+        0 => lengths[which].saturating_sub(1),
+        1 => lengths[which] + 1,
+        _ => dice.below(LONGEST[which]),
+    };
+    lengths
+}
+
+#[cfg(test)]
+mod tests {
+    use super::*;
+    use crate::machine::{self, fast};
+
+    #[test]
+    fn the_two_machines_do_not_differ() {
+        assert!(differ(1, 5_000, machine::run, fast::run).is_none());
+    }
+
+    /// A run that forgets the answers.
+    fn forgetful(
+        book: &[u8],
+        events: &[u8],
+        cells: &mut [u8],
+        jobs: &mut [u8],
+        answers: &mut [u8],
+    ) -> Outcome {
+        let mut own = answers.to_vec();
+        machine::run(book, events, cells, jobs, &mut own)
+    }
+
+    #[test]
+    fn a_difference_is_found() {
+        let found = differ(1, 50, machine::run, forgetful).unwrap();
+        assert_eq!(found.one.0, found.other.0);
+        assert_ne!(found.one.1, found.other.1);
+    }
+}
