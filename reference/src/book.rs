@@ -1,18 +1,19 @@
 //! "The job book" of document 01: its records, refusals 1 to 6, and a block's stretch with
 //! refusal 12.
 
+mod fields;
+mod record;
 #[cfg(test)]
 pub(crate) mod tests;
+
+use fields::{check_limits, check_names};
+use record::{split, Content, Record};
 
 const LONGEST_BOOK: usize = 32_768;
 const MOST_SHAPES: usize = 32;
 const MOST_CELLS: usize = 32;
 const MOST_BLOCKS: usize = 64;
 const MOST_STEPS: usize = 64;
-
-const TOP_LABEL: u8 = 15;
-const TOP_C: u8 = 14;
-const TOP_REGISTER: u8 = 7;
 
 /// Value kinds: "0 plain, 1 cell, 2 code".
 pub const PLAIN_VALUE: u8 = 0;
@@ -109,22 +110,6 @@ pub struct Book {
     pub blocks: Vec<Block>,
 }
 
-/// What a record says.
-enum Content {
-    C(u8),
-    Shape(Shape),
-    Cell(DeclaredCell),
-    Block { bound: u8 },
-    Step(Step),
-}
-
-/// A record with its offset and its length in bytes.
-struct Record {
-    place: usize,
-    size: usize,
-    content: Content,
-}
-
 /// Reads a book; "a stage covers the whole book before the next begins".
 pub fn read(bytes: &[u8]) -> Result<Book, Refusal> {
     check_length(bytes)?;
@@ -156,68 +141,6 @@ fn check_length(bytes: &[u8]) -> Result<(), Refusal> {
         return refuse(1, 0);
     }
     Ok(())
-}
-
-/// Refusal 2: "A kind is none of the above, or the book ends inside a body."
-fn split(bytes: &[u8]) -> Result<Vec<Record>, Refusal> {
-    let mut records = Vec::with_capacity(bytes.len() / 3 + 1);
-    let mut place = 0;
-    while place < bytes.len() {
-        let Some((content, size)) = decode(place, &bytes[place..]) else {
-            return refuse(2, place);
-        };
-        records.push(Record {
-            place,
-            size,
-            content,
-        });
-        place += size;
-    }
-    Ok(records)
-}
-
-/// The record at the head of `rest`, with its size; none if its kind is unknown or its body cut.
-fn decode(place: usize, rest: &[u8]) -> Option<(Content, usize)> {
-    match *rest {
-        [1, c, ..] => Some((Content::C(c), 2)),
-        [16, ..] => Some((Content::Shape(Shape::Plain), 1)),
-        [17, bound, ..] => Some((Content::Shape(Shape::Code { bound }), 2)),
-        [18, content, trust, ..] => Some((Content::Shape(Shape::Cell { content, trust }), 3)),
-        [32, shape, label, value_kind, n0, n1, n2, n3, ..] => {
-            let number = u32::from_le_bytes([n0, n1, n2, n3]);
-            let cell = DeclaredCell {
-                place,
-                shape,
-                label,
-                value_kind,
-                number,
-            };
-            Some((Content::Cell(cell), 8))
-        }
-        [48, bound, ..] => Some((Content::Block { bound }, 2)),
-        _ => decode_step(rest).map(|(step, size)| (Content::Step(step), size)),
-    }
-}
-
-/// As `decode`, for the kinds of step.
-fn decode_step(rest: &[u8]) -> Option<(Step, usize)> {
-    match *rest {
-        [64, r, n0, n1, n2, n3, ..] => {
-            let number = u32::from_le_bytes([n0, n1, n2, n3]);
-            Some((Step::Put { r, number }, 6))
-        }
-        [65, r, cell, ..] => Some((Step::Name { r, cell }, 3)),
-        [66, r, block, ..] => Some((Step::Code { r, block }, 3)),
-        [67, r, a, b, ..] => Some((Step::Add { r, a, b }, 4)),
-        [68, r, shape, a, ..] => Some((Step::New { r, shape, a }, 4)),
-        [69, r, w, ..] => Some((Step::Read { r, w }, 3)),
-        [70, w, a, ..] => Some((Step::Write { w, a }, 3)),
-        [71, w, label, ..] => Some((Step::Relabel { w, label }, 3)),
-        [72, label, ..] => Some((Step::Lower { label }, 2)),
-        [73, block, ..] => Some((Step::Start { block }, 2)),
-        [74, w, ..] => Some((Step::Exec { w }, 2)),
-        _ => None,
-    }
 }
 
 /// Refusal 3: "The first record is missing or not C, a record is out of order, or no block
@@ -281,47 +204,6 @@ fn check_counts(records: &[Record]) -> Result<(), Refusal> {
     Ok(())
 }
 
-/// Refusal 5: "A label, bound or trust is above 15, C above 14, a register above 7, or a value
-/// kind above 2."
-fn check_limits(records: &[Record]) -> Result<(), Refusal> {
-    for record in records {
-        let within = match record.content {
-            Content::C(c) => c <= TOP_C,
-            Content::Shape(shape) => shape_within_limits(shape),
-            Content::Cell(cell) => cell.label <= TOP_LABEL && cell.value_kind <= CODE_VALUE,
-            Content::Block { bound } => bound <= TOP_LABEL,
-            Content::Step(step) => step_within_limits(step),
-        };
-        if !within {
-            return refuse(5, record.place);
-        }
-    }
-    Ok(())
-}
-
-fn shape_within_limits(shape: Shape) -> bool {
-    match shape {
-        Shape::Plain => true,
-        Shape::Code { bound } => bound <= TOP_LABEL,
-        Shape::Cell { trust, .. } => trust <= TOP_LABEL,
-    }
-}
-
-fn step_within_limits(step: Step) -> bool {
-    let registers = |all: &[u8]| all.iter().all(|&register| register <= TOP_REGISTER);
-    match step {
-        Step::Put { r, .. } | Step::Name { r, .. } | Step::Code { r, .. } => registers(&[r]),
-        Step::Add { r, a, b } => registers(&[r, a, b]),
-        Step::New { r, a, .. } => registers(&[r, a]),
-        Step::Read { r, w } => registers(&[r, w]),
-        Step::Write { w, a } => registers(&[w, a]),
-        Step::Relabel { w, label } => registers(&[w]) && label <= TOP_LABEL,
-        Step::Lower { label } => label <= TOP_LABEL,
-        Step::Start { .. } => true,
-        Step::Exec { w } => registers(&[w]),
-    }
-}
-
 /// The groups as lists; "each is numbered from 0".
 fn assemble(records: &[Record]) -> Book {
     let mut book = Book::default();
@@ -345,70 +227,4 @@ fn assemble(records: &[Record]) -> Book {
         }
     }
     book
-}
-
-/// Refusal 6: "A content shape is not lower-numbered than its cell shape, a cell or new names no
-/// cell shape, or a declared cell or block number does not exist."
-fn check_names(records: &[Record], book: &Book) -> Result<(), Refusal> {
-    let mut shapes_before = 0;
-    for record in records {
-        let sound = match record.content {
-            Content::C(_) | Content::Block { .. } => true,
-            Content::Shape(shape) => {
-                let own_number = shapes_before;
-                shapes_before += 1;
-                content_is_lower(shape, own_number)
-            }
-            Content::Cell(cell) => book.has_cell_shape(cell.shape) && book.value_exists(cell),
-            Content::Step(step) => book.names_exist(step),
-        };
-        if !sound {
-            return refuse(6, record.place);
-        }
-    }
-    Ok(())
-}
-
-fn content_is_lower(shape: Shape, own_number: usize) -> bool {
-    match shape {
-        Shape::Plain | Shape::Code { .. } => true,
-        Shape::Cell { content, .. } => usize::from(content) < own_number,
-    }
-}
-
-impl Book {
-    /// Whether this shape number exists and is that of a cell shape.
-    fn has_cell_shape(&self, shape: u8) -> bool {
-        matches!(
-            self.shapes.get(usize::from(shape)),
-            Some(Shape::Cell { .. })
-        )
-    }
-
-    fn has_cell(&self, number: u32) -> bool {
-        (number as usize) < self.cells.len()
-    }
-
-    fn has_block(&self, number: u32) -> bool {
-        (number as usize) < self.blocks.len()
-    }
-
-    /// "number (for kinds 1 and 2 the cell or block number)".
-    fn value_exists(&self, cell: DeclaredCell) -> bool {
-        match cell.value_kind {
-            PLAIN_VALUE => true,
-            CELL_VALUE => self.has_cell(cell.number),
-            _ => self.has_block(cell.number),
-        }
-    }
-
-    /// Whether the shape, cell or block that a step names is there.
-    fn names_exist(&self, step: Step) -> bool {
-        match step {
-            Step::Name { cell, .. } => self.has_cell(cell.into()),
-            Step::Code { block, .. } | Step::Start { block } => self.has_block(block.into()),
-            Step::New { shape, .. } => self.has_cell_shape(shape),
-            _ => true,
-        }
-    }
 }

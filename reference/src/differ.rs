@@ -2,8 +2,8 @@
 
 use crate::generate::dice::Dice;
 use crate::generate::Bytes;
-use crate::machine::Outcome;
-use crate::runs::answer::{outcome, Lent, Runner};
+use crate::machine::{Outcome, Runner};
+use crate::runs::answer::{outcome, Lent};
 use crate::runs::chance::{any_book, events};
 use crate::runs::lively::Most;
 use crate::runs::{Run, LONGEST};

@@ -18,24 +18,28 @@ pub fn push(bytes: &mut Vec<u8>, part: &[u8]) {
 }
 
 /// The books in the file, in order.
-pub fn split(mut bytes: &[u8]) -> io::Result<Vec<&[u8]>> {
-    let mut books = Vec::new();
+pub fn split(bytes: &[u8]) -> io::Result<Vec<&[u8]>> {
+    all(bytes, first)
+}
+
+/// All that `first` gives, one after another, until no bytes are left.
+pub fn all<'b, T>(
+    mut bytes: &'b [u8],
+    first: fn(&'b [u8]) -> Option<(T, &'b [u8])>,
+) -> io::Result<Vec<T>> {
+    let mut found = Vec::new();
     while !bytes.is_empty() {
-        let (book, rest) = first(bytes).ok_or_else(cut)?;
-        books.push(book);
+        let (one, rest) = first(bytes).ok_or_else(|| io::Error::other("the file is cut"))?;
+        found.push(one);
         bytes = rest;
     }
-    Ok(books)
+    Ok(found)
 }
 
 /// The first part and the bytes behind it, unless the file ends inside it.
 pub fn first(bytes: &[u8]) -> Option<(&[u8], &[u8])> {
     let (length, rest) = bytes.split_first_chunk::<4>()?;
     rest.split_at_checked(u32::from_le_bytes(*length) as usize)
-}
-
-pub fn cut() -> io::Error {
-    io::Error::other("the file is cut")
 }
 
 #[cfg(test)]

@@ -34,6 +34,9 @@ pub struct Ran {
 /// What a run answers. On a refusal nothing is written.
 pub type Outcome = Result<Ran, Refusal>;
 
+/// How a book is run: `run`, or another implementation.
+pub type Runner = fn(&[u8], &[u8], &mut [u8], &mut [u8], &mut [u8]) -> Outcome;
+
 /// Runs a book on a list of events, both as bytes. The cell table, the job table and the answer
 /// buffer are lent.
 pub fn run(

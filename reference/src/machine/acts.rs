@@ -2,7 +2,7 @@
 
 use super::cause::Why;
 use super::history::History;
-use super::state::{trust_of, Actor, Cell, Datum, Job, Machine, Value};
+use super::state::{Actor, Cell, Datum, Job, Machine, Value};
 
 pub type Act = Result<(), Why>;
 
@@ -38,7 +38,7 @@ impl Machine<'_> {
         }
         self.cells.push(Cell {
             shape,
-            trust: trust_of(self.book, shape),
+            trust: self.book.trust_of(shape),
             label: actor.label,
             value: content.after(actor.history),
         });

@@ -6,7 +6,6 @@ mod steps;
 use super::event::{self, Event};
 use super::{check_answers, check_tables, Outcome, Ran, CELL_SIZE, JOB_SIZE, TABLE};
 use crate::book::{self, Book, Refusal};
-use acts::trust_of;
 
 /// Kind, number and source; a source of two histories is the lower of theirs.
 #[derive(Clone, Copy)]
@@ -119,7 +118,7 @@ impl<'b> Fast<'b> {
         for (cell, declared) in self.cells.iter_mut().zip(&self.book.cells) {
             *cell = Cell {
                 shape: declared.shape,
-                trust: trust_of(self.book, declared.shape),
+                trust: self.book.trust_of(declared.shape),
                 label: declared.label,
                 value: Word {
                     number: declared.number,

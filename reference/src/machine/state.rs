@@ -2,7 +2,7 @@
 
 use super::history::History;
 use super::{Ran, TABLE};
-use crate::book::{Book, DeclaredCell, Shape, CELL_VALUE, PLAIN_VALUE};
+use crate::book::{Book, DeclaredCell, CELL_VALUE, PLAIN_VALUE};
 
 /// "plain (32 bits), a cell or a block".
 #[derive(Clone, Copy, Debug, PartialEq, Eq)]
@@ -116,19 +116,11 @@ fn fresh(book: &Book, declared: &DeclaredCell) -> Cell {
     };
     Cell {
         shape: declared.shape,
-        trust: trust_of(book, declared.shape),
+        trust: book.trust_of(declared.shape),
         label: declared.label,
         value: Value {
             datum,
             history: History::of(15),
         },
-    }
-}
-
-/// The trust that a cell shape states.
-pub fn trust_of(book: &Book, shape: u8) -> u8 {
-    match book.shapes[usize::from(shape)] {
-        Shape::Cell { trust, .. } => trust,
-        _ => unreachable!("only cell shapes are asked for"),
     }
 }

@@ -19,10 +19,8 @@ struct After {
     answers: Vec<u8>,
 }
 
-type Run = fn(&[u8], &[u8], &mut [u8], &mut [u8], &mut [u8]) -> Outcome;
-
 /// A run with buffers of these lengths: cells, jobs, answers.
-fn run_with(run: Run, book: &[u8], events: &[u8], lengths: [usize; 3]) -> After {
+fn run_with(run: Runner, book: &[u8], events: &[u8], lengths: [usize; 3]) -> After {
     let [mut cells, mut jobs, mut answers] = lengths.map(|length| vec![BEFORE; length]);
     let outcome = run(book, events, &mut cells, &mut jobs, &mut answers);
     After {

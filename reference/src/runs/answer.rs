@@ -1,16 +1,13 @@
 //! The line printed for a run.
 
 use super::Run;
-use crate::machine::{self, event, Outcome, CELL_SIZE, JOB_SIZE};
+use crate::machine::{self, event, Outcome, Runner, CELL_SIZE, JOB_SIZE};
 
 /// What the lent buffers hold before a run.
 pub const BEFORE: u8 = 0xA5;
 
 /// The lent buffers: the cell table, the job table, the answers.
 pub type Lent = [Vec<u8>; 3];
-
-/// How a book is run.
-pub type Runner = fn(&[u8], &[u8], &mut [u8], &mut [u8], &mut [u8]) -> Outcome;
 
 /// What a run gives, and the buffers behind it.
 pub fn outcome(runner: Runner, run: &Run) -> (Outcome, Lent) {

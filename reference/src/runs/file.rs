@@ -3,7 +3,7 @@
 //! table and the answer buffer.
 
 use super::Run;
-use crate::file::{cut, first, push};
+use crate::file::{all, first, push};
 use std::io;
 
 pub fn join(runs: &[Run]) -> Vec<u8> {
@@ -18,14 +18,8 @@ pub fn join(runs: &[Run]) -> Vec<u8> {
     bytes
 }
 
-pub fn split(mut bytes: &[u8]) -> io::Result<Vec<Run>> {
-    let mut runs = Vec::new();
-    while !bytes.is_empty() {
-        let (run, rest) = first_run(bytes).ok_or_else(cut)?;
-        runs.push(run);
-        bytes = rest;
-    }
-    Ok(runs)
+pub fn split(bytes: &[u8]) -> io::Result<Vec<Run>> {
+    all(bytes, first_run)
 }
 
 fn first_run(bytes: &[u8]) -> Option<(Run, &[u8])> {

@@ -2,15 +2,7 @@
 
 use super::super::event::Brought;
 use super::{Cell, Fast, Job, Word, BLOCKED, CELL, CODE, DONE, NO_SUCH, PLAIN, TABLE};
-use crate::book::{Book, Shape};
-
-/// The trust of a cell shape.
-pub fn trust_of(book: &Book, shape: u8) -> u8 {
-    match book.shapes[usize::from(shape)] {
-        Shape::Cell { trust, .. } => trust,
-        _ => 0,
-    }
-}
+use crate::book::Shape;
 
 impl Fast<'_> {
     pub fn write(&mut self, label: u8, source: u8, cell: usize, value: Word) -> u8 {
@@ -40,7 +32,7 @@ impl Fast<'_> {
         }
         self.cells[self.used.cells] = Cell {
             shape,
-            trust: trust_of(self.book, shape),
+            trust: self.book.trust_of(shape),
             label,
             value: Word {
                 source: content.source.min(source),
