@@ -9,6 +9,7 @@ mod fields;
 pub mod file;
 mod full;
 mod hands;
+mod labels;
 pub(crate) mod lively;
 mod long;
 mod refused;
@@ -64,6 +65,7 @@ pub fn all() -> Vec<Run> {
         samples::runs(),
         fields::runs(),
         hands::runs(),
+        labels::runs(),
         full::runs(),
         again::runs(),
         chance::runs(),

@@ -114,6 +114,7 @@ fn the_file_is_rich_enough_and_not_too_large() {
     assert!(runs.len() >= 5_000);
     assert!(file::join(&runs).len() < 2_000_000);
     for run in &runs {
+        assert!(run.book.len() <= 32_769 && run.events.len() <= 65_537);
         let mut lengths = run.lengths.iter().zip(LONGEST);
         assert!(lengths.all(|(&length, longest)| length <= longest));
     }
