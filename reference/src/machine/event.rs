@@ -2,7 +2,7 @@
 
 use crate::book::{refuse, Refusal};
 
-pub const LONGEST_LIST: usize = 65_536;
+const LONGEST_LIST: usize = 65_536;
 
 /// Kinds of event.
 pub const STEP: u8 = 80;
@@ -36,39 +36,50 @@ fn brought(kind: u8, number: [u8; 4]) -> Brought {
     Brought { kind, number }
 }
 
-/// The event at the head of `rest`, with its size; none if its kind is unknown or its body cut.
-pub fn decode(rest: &[u8]) -> Option<(Event, usize)> {
+/// The event at the head of `rest`, and what stands behind it; none if its kind is unknown or its
+/// body cut.
+#[inline]
+pub fn decode(rest: &[u8]) -> Option<(Event, &[u8])> {
     match *rest {
-        [STEP, job, ..] => Some((Event::Step { job }, 2)),
-        [WRITE, q, cell, kind, n0, n1, n2, n3, ..] => {
+        [STEP, job, ref behind @ ..] => Some((Event::Step { job }, behind)),
+        [WRITE, q, cell, kind, n0, n1, n2, n3, ref behind @ ..] => {
             let value = brought(kind, [n0, n1, n2, n3]);
-            Some((Event::Write { q, cell, value }, 8))
+            Some((Event::Write { q, cell, value }, behind))
         }
-        [RELABEL, q, cell, label, ..] => Some((Event::Relabel { q, cell, label }, 4)),
-        [NEW, q, shape, kind, n0, n1, n2, n3, ..] => {
+        [RELABEL, q, cell, label, ref behind @ ..] => {
+            Some((Event::Relabel { q, cell, label }, behind))
+        }
+        [NEW, q, shape, kind, n0, n1, n2, n3, ref behind @ ..] => {
             let value = brought(kind, [n0, n1, n2, n3]);
-            Some((Event::New { q, shape, value }, 8))
+            Some((Event::New { q, shape, value }, behind))
         }
-        [EXEC, q, cell, ..] => Some((Event::Exec { q, cell }, 3)),
-        [START, q, block, ..] => Some((Event::Start { q, block }, 3)),
+        [EXEC, q, cell, ref behind @ ..] => Some((Event::Exec { q, cell }, behind)),
+        [START, q, block, ref behind @ ..] => Some((Event::Start { q, block }, behind)),
         _ => None,
     }
 }
 
 /// Refusal 9: "The event list exceeds 65,536 bytes (place 0), or has an unknown kind or a cut
-/// body."
-pub fn split(bytes: &[u8]) -> Result<Vec<Event>, Refusal> {
+/// body." Calls `see` with each event up to the first at fault.
+#[inline]
+pub fn walk(bytes: &[u8], mut see: impl FnMut(Event)) -> Result<(), Refusal> {
     if bytes.len() > LONGEST_LIST {
         return refuse(9, 0);
     }
-    let mut events = Vec::new();
-    let mut place = 0;
-    while place < bytes.len() {
-        let Some((event, size)) = decode(&bytes[place..]) else {
-            return refuse(9, place);
+    let mut rest = bytes;
+    while !rest.is_empty() {
+        let Some((event, behind)) = decode(rest) else {
+            return refuse(9, bytes.len() - rest.len());
         };
-        events.push(event);
-        place += size;
+        see(event);
+        rest = behind;
     }
+    Ok(())
+}
+
+/// The events of a list.
+pub fn split(bytes: &[u8]) -> Result<Vec<Event>, Refusal> {
+    let mut events = Vec::new();
+    walk(bytes, |event| events.push(event))?;
     Ok(events)
 }

@@ -5,7 +5,7 @@ mod steps;
 
 use super::event::{self, Event};
 use super::{check_answers, check_tables, Outcome, Ran, CELL_SIZE, JOB_SIZE, TABLE};
-use crate::book::{self, Book, Refusal};
+use crate::book::{self, Book, DeclaredCell};
 
 /// Kind, number and source; a source of two histories is the lower of theirs.
 #[derive(Clone, Copy)]
@@ -41,12 +41,11 @@ const BLOCKED: u8 = 1;
 const NO_STEP_LEFT: u8 = 2;
 const NO_SUCH: u8 = 3;
 
-/// The tables with what is in use of them.
+/// The tables, as far as they are in use.
 struct Fast<'b> {
     book: &'b Book,
-    cells: [Cell; TABLE],
-    jobs: [Job; TABLE],
-    used: Ran,
+    cells: Vec<Cell>,
+    jobs: Vec<Job>,
 }
 
 /// As `machine::run`.
@@ -58,76 +57,45 @@ pub fn run(
     answers: &mut [u8],
 ) -> Outcome {
     let book = book::read(book)?;
-    let count = counted(events)?;
+    let mut count = 0;
+    event::walk(events, |_| count += 1)?;
     check_tables(cells, jobs)?;
     check_answers(answers, count)?;
     let mut fast = Fast::new(&book);
-    let mut rest = events;
-    for answer in &mut answers[..count] {
-        let Some((event, size)) = event::decode(rest) else {
-            unreachable!("all events are decoded before");
-        };
-        *answer = fast.take(event);
-        rest = &rest[size..];
-    }
+    let mut left = answers.iter_mut();
+    event::walk(events, |event| {
+        if let Some(answer) = left.next() {
+            *answer = fast.take(event);
+        }
+    })?;
     fast.store(cells, jobs);
-    Ok(fast.used)
+    Ok(Ran {
+        cells: fast.cells.len(),
+        jobs: fast.jobs.len(),
+    })
 }
 
-/// How many events there are.
-fn counted(events: &[u8]) -> Result<usize, Refusal> {
-    if events.len() > event::LONGEST_LIST {
-        return book::refuse(9, 0);
+fn declared(book: &Book, cell: &DeclaredCell) -> Cell {
+    Cell {
+        shape: cell.shape,
+        trust: book.trust_of(cell.shape),
+        label: cell.label,
+        value: Word {
+            number: cell.number,
+            kind: cell.value_kind,
+            source: 15,
+        },
     }
-    let (mut count, mut place) = (0, 0);
-    while place < events.len() {
-        let Some((_, size)) = event::decode(&events[place..]) else {
-            return book::refuse(9, place);
-        };
-        count += 1;
-        place += size;
-    }
-    Ok(count)
 }
 
 impl<'b> Fast<'b> {
     fn new(book: &'b Book) -> Fast<'b> {
-        let zero = Word {
-            number: 0,
-            kind: PLAIN,
-            source: 0,
-        };
-        let no_cell = Cell {
-            shape: 0,
-            trust: 0,
-            label: 0,
-            value: zero,
-        };
         let bound = book.blocks[0].bound;
-        let mut fast = Fast {
-            book,
-            cells: [no_cell; TABLE],
-            jobs: [Job::new(0, bound, bound); TABLE],
-            used: Ran { cells: 0, jobs: 1 },
-        };
-        fast.declare();
-        fast
-    }
-
-    fn declare(&mut self) {
-        for (cell, declared) in self.cells.iter_mut().zip(&self.book.cells) {
-            *cell = Cell {
-                shape: declared.shape,
-                trust: self.book.trust_of(declared.shape),
-                label: declared.label,
-                value: Word {
-                    number: declared.number,
-                    kind: declared.value_kind,
-                    source: 15,
-                },
-            };
-        }
-        self.used.cells = self.book.cells.len();
+        let mut cells = Vec::with_capacity(TABLE);
+        cells.extend(book.cells.iter().map(|cell| declared(book, cell)));
+        let mut jobs = Vec::with_capacity(TABLE);
+        jobs.push(Job::new(0, bound, bound));
+        Fast { book, cells, jobs }
     }
 
     fn take(&mut self, event: Event) -> u8 {
@@ -142,15 +110,13 @@ impl<'b> Fast<'b> {
     }
 
     fn store(&self, cells: &mut [u8], jobs: &mut [u8]) {
-        cells[self.used.cells * CELL_SIZE..].fill(0);
-        jobs[self.used.jobs * JOB_SIZE..].fill(0);
-        let used_cells = &self.cells[..self.used.cells];
-        for (record, cell) in cells.chunks_exact_mut(CELL_SIZE).zip(used_cells) {
+        cells[self.cells.len() * CELL_SIZE..].fill(0);
+        jobs[self.jobs.len() * JOB_SIZE..].fill(0);
+        for (record, cell) in cells.chunks_exact_mut(CELL_SIZE).zip(&self.cells) {
             record[..3].copy_from_slice(&[cell.shape, cell.trust, cell.label]);
             cell.value.store(&mut record[3..]);
         }
-        let used_jobs = &self.jobs[..self.used.jobs];
-        for (record, job) in jobs.chunks_exact_mut(JOB_SIZE).zip(used_jobs) {
+        for (record, job) in jobs.chunks_exact_mut(JOB_SIZE).zip(&self.jobs) {
             record[..4].copy_from_slice(&[job.block, job.position, job.label, job.source]);
             for (field, register) in record[4..].chunks_exact_mut(6).zip(&job.registers) {
                 register.store(field);

@@ -27,10 +27,10 @@ impl Fast<'_> {
     }
 
     pub fn make(&mut self, label: u8, source: u8, shape: u8, content: Word) -> u8 {
-        if self.used.cells == TABLE {
+        if self.cells.len() == TABLE {
             return BLOCKED;
         }
-        self.cells[self.used.cells] = Cell {
+        self.cells.push(Cell {
             shape,
             trust: self.book.trust_of(shape),
             label,
@@ -38,8 +38,7 @@ impl Fast<'_> {
                 source: content.source.min(source),
                 ..content
             },
-        };
-        self.used.cells += 1;
+        });
         DONE
     }
 
@@ -58,11 +57,10 @@ impl Fast<'_> {
     }
 
     pub fn begin(&mut self, job: Job) -> u8 {
-        if self.used.jobs == TABLE {
+        if self.jobs.len() == TABLE {
             return BLOCKED;
         }
-        self.jobs[self.used.jobs] = job;
-        self.used.jobs += 1;
+        self.jobs.push(job);
         DONE
     }
 
@@ -106,14 +104,14 @@ impl Fast<'_> {
     }
 
     fn has_cell(&self, number: u8) -> bool {
-        usize::from(number) < self.used.cells
+        usize::from(number) < self.cells.len()
     }
 
     fn may_bring(&self, value: Brought) -> bool {
         let number = value.number as usize;
         match value.kind {
             PLAIN => true,
-            CELL => number < self.used.cells,
+            CELL => number < self.cells.len(),
             CODE => number < self.book.blocks.len(),
             _ => false,
         }

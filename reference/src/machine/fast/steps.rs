@@ -38,10 +38,9 @@ impl Job {
 
 impl Fast<'_> {
     pub fn step(&mut self, number: usize) -> u8 {
-        if number >= self.used.jobs {
+        let Some(job) = self.jobs.get(number) else {
             return NO_SUCH;
-        }
-        let job = &self.jobs[number];
+        };
         let steps = &self.book.blocks[usize::from(job.block)].steps;
         let Some(&step) = steps.get(usize::from(job.position)) else {
             return NO_STEP_LEFT;
@@ -79,7 +78,7 @@ impl Fast<'_> {
     fn new_step(&mut self, number: usize, r: u8, shape: u8, a: u8) -> u8 {
         let job = &self.jobs[number];
         let (label, source, content) = (job.label, job.source, job.word(a));
-        let made = self.used.cells as u32;
+        let made = self.cells.len() as u32;
         if self.make(label, source, shape, content) == BLOCKED {
             return BLOCKED;
         }
