@@ -1,5 +1,6 @@
 //! What the file of test runs must hold.
 
+mod claim;
 mod coverage;
 
 use super::answer::{line, outcome};
