@@ -22,11 +22,11 @@ pub fn split(bytes: &[u8]) -> io::Result<Vec<&[u8]>> {
     all(bytes, first)
 }
 
+/// Takes what stands first from some bytes, and gives what is behind it too.
+type First<'b, T> = fn(&'b [u8]) -> Option<(T, &'b [u8])>;
+
 /// All that `first` gives, one after another, until no bytes are left.
-pub fn all<'b, T>(
-    mut bytes: &'b [u8],
-    first: fn(&'b [u8]) -> Option<(T, &'b [u8])>,
-) -> io::Result<Vec<T>> {
+pub fn all<'b, T>(mut bytes: &'b [u8], first: First<'b, T>) -> io::Result<Vec<T>> {
     let mut found = Vec::new();
     while !bytes.is_empty() {
         let (one, rest) = first(bytes).ok_or_else(|| io::Error::other("the file is cut"))?;

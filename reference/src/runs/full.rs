@@ -96,10 +96,9 @@ fn jobs() -> Vec<Run> {
 }
 
 fn outsiders_job(number: u8, which: usize) -> Bytes {
-    if which % 2 == 0 {
-        events::start(number % 6, number % 2)
-    } else {
-        events::exec(number % 6, 1)
+    match which % 2 {
+        0 => events::start(number % 6, number % 2),
+        _ => events::exec(number % 6, 1),
     }
 }
 
