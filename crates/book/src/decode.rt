@@ -65,7 +65,7 @@ pub fn shape_in(table: &[u8], i: u8) -> Shape
 }
 
 // A value by its kind and number.
-fn value_of(kind: u8, number: u32) -> Value
+pub fn value_of(kind: u8, number: u32) -> Value
     ensures { λ r. ⌜ r ≡ valueOf kind number ⌝ }
 {
     if kind == 0 {

@@ -21,7 +21,7 @@ fn is_cell_shape(shapes: &[u8], i: u8) -> bool
     x.kind == 18
 }
 
-fn value_named(value: Value, cells: usize, blocks: usize) -> bool
+pub fn value_named(value: Value, cells: usize, blocks: usize) -> bool
     ensures { λ r. ⌜ r ≡ valueNamed cells blocks value ⌝ }
 {
     match value {

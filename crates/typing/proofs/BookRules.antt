@@ -70,10 +70,10 @@ module _ (s bounds starts lengths : List ℕ) (u : Laid s bounds starts lengths)
   blocks : i < length (blocksOf s)
   blocks = let e : length bounds ≡ length (blocksOf s) = ap length (u .bound) ∙ length-map (blocksOf s) (boundAt s) in omega arith
 
-  abbrev o : ℕ
+  abbrev pub o : ℕ
   o = getD (blocksOf s) i 0
 
-  block : Block s o
+  pub block : Block s o
   block =
       let x = stands s 4 (u .whole) i blocks in
       let w = walk s o (x .whole) (x .inside) in

@@ -70,7 +70,7 @@ module _ (s : List ℕ) (e : unreadable s ≡ Passed) (t : Outline) (et : t ≡ 
   r : Readable s
   r = readable s e
 
-  shape-is : (i : ℕ) → shapeIn (t .shape) i ≡ getD (parse s .shapes) i noShape
+  pub shape-is : (i : ℕ) → shapeIn (t .shape) i ≡ getD (parse s .shapes) i noShape
   unfolding outlineOf parse
   shape-is i =
       ap (λ (t : Outline). shapeIn (t .shape) i) et
@@ -87,7 +87,7 @@ module _ (s : List ℕ) (e : unreadable s ≡ Passed) (t : Outline) (et : t ≡ 
             omega arith;
       }
 
-  cells-are : take (t .counts .cells - 0) (drop 0 (t .cell)) ≡ cellsOf s
+  pub cells-are : take (t .counts .cells - 0) (drop 0 (t .cell)) ≡ cellsOf s
   unfolding outlineOf
   cells-are = ap (λ (t : Outline). take (t .counts .cells - 0) (drop 0 (t .cell))) et ∙ take-at (cellsOf s) _ (length (cellsOf s) - 0) (omega arith)
 
@@ -97,13 +97,13 @@ module _ (s : List ℕ) (e : unreadable s ≡ Passed) (t : Outline) (et : t ≡ 
       ap (λ (t : Outline). take (t .counts .cells - 0) (drop 0 (t .shaped))) et
       ∙ take-at (map (λ o. byteAt s (o + 1)) (cellsOf s)) _ (length (cellsOf s) - 0) (length-map (cellsOf s) (λ o. byteAt s (o + 1)) ∙ omega arith)
 
-  bounds-are : take (t .counts .blocks - 0) (drop 0 (t .bound)) ≡ map (boundAt s) (blocksOf s)
+  pub bounds-are : take (t .counts .blocks - 0) (drop 0 (t .bound)) ≡ map (boundAt s) (blocksOf s)
   unfolding outlineOf
   bounds-are =
       ap (λ (t : Outline). take (t .counts .blocks - 0) (drop 0 (t .bound))) et
       ∙ take-at (map (boundAt s) (blocksOf s)) _ (length (blocksOf s) - 0) (length-map (blocksOf s) (boundAt s) ∙ omega arith)
 
-  starts-are : take (t .counts .blocks - 0) (drop 0 (t .start)) ≡ map startAt (blocksOf s)
+  pub starts-are : take (t .counts .blocks - 0) (drop 0 (t .start)) ≡ map startAt (blocksOf s)
   unfolding outlineOf
   starts-are =
       ap (λ (t : Outline). take (t .counts .blocks - 0) (drop 0 (t .start))) et

@@ -37,7 +37,7 @@ pub record Stood (w : List ℕ) (o : ℕ) (p : Step) (n : ℕ) : Type 0 where
   pub on : n ≡ next w o
 
 module _ (w : List ℕ) (o : ℕ) (whole : Whole w o) (h : o < length w) (x : StepAt) (ex : x ≡ stepFound w o) where
-  no : x ≡ NoStep → group (byteAt w o) ≡ 5 → ⊥
+  pub no : x ≡ NoStep → group (byteAt w o) ≡ 5 → ⊥
   unfolding stepFound both
   no e g =
       let k : inGroup w 5 o ≡ true = borrow.Author.Tests.eq-eqb _ _ g in

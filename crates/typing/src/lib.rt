@@ -8,6 +8,7 @@ mod shapes;
 use book::Fault;
 use book::Outline;
 use book::Refusal;
+pub use declared::offset_of;
 use labels::Label;
 ghost use mathlib.Core.Path.{_≡_};
 ghost use Rattle.book.specs.declared.Refusal.the-variants.{Passed};
