@@ -1,0 +1,5 @@
+pub mod Values
+pub mod Acting
+pub mod Taking
+pub mod Such
+pub mod Nearby
