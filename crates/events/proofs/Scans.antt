@@ -1,0 +1,154 @@
+-- Laws of the scan of an event list, for the code.
+--     spans, says, cuts      one set for the bytes of a kind, one for the event at an offset, one for a cut event
+--     scans                  one for the loop
+-- Assumes nothing.
+use mathlib.Core.Path.{_≡_, refl, sym, ap, _∙_}
+use mathlib.Core.Bool.{Bool, true, false}
+use mathlib.Core.List.{List}
+use Prim.Native.Nat.{ℕ, _+_, _-_, _≤_, _<_}
+use native.Mathlib.Omega.{arith}
+use lib.ListN.{length, length-map}
+use borrow.Author.Tests.{lt-ltb, le-ltb, eq-eqb, ne-eqb}
+use Rattle.labels.specs.Labels.{label}
+use Rattle.book.specs.declared.Fault.the-variants.{Nowhere, At}
+use Rattle.book.specs.declared.Refusal.the-variants.{Passed}
+use Rattle.book.specs.Control.{either, first, sweep}
+use Rattle.book.specs.Records.{byteAt, numberAt}
+use Rattle.book.specs.Refusals.{orRefuse}
+use Rattle.book.proofs.Tests.{either-true}
+use Rattle.machine.specs.declared.Event.the-variants.{StepOf, WriteBy, RelabelBy, NewBy, ExecBy, StartBy}
+use Rattle.events.specs.declared.Scanned.{Scanned}
+use Rattle.events.specs.Bytes.{span, next, cut, offsetsFrom, eventAt, eventsFrom, eventFault, unplayable, refusedScan, scanOf, scanned}
+use Rattle.events.proofs.Walks.{uncut-span, uncut-inside, offsets-end, offsets-cut, offsets-more}
+
+-- the bytes of each kind
+module _ (k : ℕ) where
+  pub span-80 : k ≡ 80 → 2 ≡ span k
+  unfolding span
+  span-80 e = simp e
+
+  pub span-81 : k ≡ 81 → 8 ≡ span k
+  unfolding span
+  span-81 e = simp e
+
+  pub span-82 : k ≡ 82 → 4 ≡ span k
+  unfolding span
+  span-82 e = simp e
+
+  pub span-83 : k ≡ 83 → 8 ≡ span k
+  unfolding span
+  span-83 e = simp e
+
+  pub span-84 : k ≡ 84 → 3 ≡ span k
+  unfolding span
+  span-84 e = simp e
+
+  pub span-85 : k ≡ 85 → 3 ≡ span k
+  unfolding span
+  span-85 e = simp e
+
+  pub span-none : (k ≡ 80 → ⊥) → (k ≡ 81 → ⊥) → (k ≡ 82 → ⊥) → (k ≡ 83 → ⊥) → (k ≡ 84 → ⊥) → (k ≡ 85 → ⊥) → 0 ≡ span k
+  unfolding span
+  span-none a b c d e f = simp (ne-eqb _ _ a, ne-eqb _ _ b, ne-eqb _ _ c, ne-eqb _ _ d, ne-eqb _ _ e, ne-eqb _ _ f)
+
+pub ruleset spans = (span-80, span-81, span-82, span-83, span-84, span-85, span-none)
+
+-- x, y, z are the bytes after the kind, and n the number after them
+module _ (l : List ℕ) (o x : ℕ) (ex : x ≡ byteAt l (o + 1)) where
+  pub is-step : byteAt l o ≡ 80 → StepOf x ≡ eventAt l o
+  unfolding eventAt
+  is-step h = simp (h, ex)
+
+  module _ (y : ℕ) (ey : y ≡ byteAt l (o + 2)) where
+    pub is-exec : byteAt l o ≡ 84 → ExecBy (label x) y ≡ eventAt l o
+    unfolding eventAt
+    is-exec h = simp (h, ex, ey)
+
+    pub is-start : (byteAt l o ≡ 80 → ⊥) → (byteAt l o ≡ 81 → ⊥) → (byteAt l o ≡ 82 → ⊥) → (byteAt l o ≡ 83 → ⊥) → (byteAt l o ≡ 84 → ⊥)
+        → StartBy (label x) y ≡ eventAt l o
+    unfolding eventAt
+    is-start a b c d e = simp (ne-eqb _ _ a, ne-eqb _ _ b, ne-eqb _ _ c, ne-eqb _ _ d, ne-eqb _ _ e, ex, ey)
+
+    module _ (z : ℕ) (ez : z ≡ byteAt l (o + 3)) where
+      pub is-relabel : byteAt l o ≡ 82 → RelabelBy (label x) y (label z) ≡ eventAt l o
+      unfolding eventAt
+      is-relabel h = simp (h, ex, ey, ez)
+
+      module _ (n : ℕ) (en : n ≡ numberAt l (o + 4)) where
+        pub is-write : byteAt l o ≡ 81 → WriteBy (label x) y z n ≡ eventAt l o
+        unfolding eventAt
+        is-write h = simp (h, ex, ey, ez, en)
+
+        pub is-new : byteAt l o ≡ 83 → NewBy (label x) y z n ≡ eventAt l o
+        unfolding eventAt
+        is-new h = simp (h, ex, ey, ez, en)
+
+pub ruleset says = (is-step, is-write, is-relabel, is-new, is-exec, is-start)
+
+-- w is the bytes of the event at o
+module _ (l : List ℕ) (o w : ℕ) (q : w ≡ span (byteAt l o)) (h : o < length l) where
+  pub cut-kind : w ≡ 0 → true ≡ cut l o
+  unfolding cut either
+  cut-kind e = simp (← q, eq-eqb _ _ e)
+
+  pub cut-body : length l - o < w → true ≡ cut l o
+  unfolding cut
+  cut-body e = simp (← q, lt-ltb (length l) (o + w) (omega arith), either-true)
+
+  pub cut-not : (w ≡ 0 → ⊥) → w ≤ length l - o → false ≡ cut l o
+  unfolding cut either
+  cut-not e b = simp (← q, ne-eqb _ _ e, le-ltb (length l) (o + w) (omega arith))
+
+pub ruleset cuts = (cut-kind, cut-body, cut-not)
+
+-- the scan has come to o, with n events behind
+pub record Scanning (l : List ℕ) (o n : ℕ) : Type 0 where
+  pub short : length l ≤ 65536
+  pub inside : o ≤ length l
+  pub few : n ≤ o
+  pub fault : first (cut l) (offsetsFrom l o) ≡ eventFault l
+  pub count : n + length (offsetsFrom l o) ≡ length (eventsFrom l 0)
+
+pub scan-long : (l : List ℕ) (r : Scanned) → 65536 < length l → r ≡ refusedScan 9 0 → r ≡ scanned l
+unfolding unplayable scanOf
+scan-long l r h e = e ∙ simp (lt-ltb _ _ h)
+
+pub scan-start : (l : List ℕ) → length l ≤ 65536 → Scanning l 0 0
+unfolding eventFault eventsFrom
+scan-start l h =
+    record { short = h; inside = omega arith; few = omega arith; fault = refl; count = omega (arith, length-map (offsetsFrom l 0) (eventAt l)) }
+
+module _ (l : List ℕ) (o n : ℕ) (k : Scanning l o n) where
+  module _ (b : Bool) (eb : b ≡ cut l o) (h : o < length l) where
+    pub scan-bad : (r : Scanned) → b ≡ true → r ≡ refusedScan 9 o → r ≡ scanned l
+    unfolding unplayable scanOf sweep orRefuse
+    scan-bad r e x =
+        let f : At o ≡ eventFault l = simp (offsets-cut l o h (sym eb ∙ e), sweep, ← eb, e) at (k .fault) in
+        x ∙ simp (le-ltb _ _ (k .short), ← f)
+
+    pub scan-on : (p : ℕ) → b ≡ false → p ≡ next l o → Scanning l p (n + 1)
+    unfolding sweep
+    scan-on p e q =
+        let c : cut l o ≡ false = sym eb ∙ e in
+        let m : length (offsetsFrom l o) ≡ length (offsetsFrom l (next l o)) + 1 = ap length (offsets-more l o h c) ∙ omega arith in
+        rw q
+        (record {
+          short = k .short;
+          inside = uncut-inside l o c;
+          few = omega (arith, k .few, uncut-span l o c);
+          fault = simp (offsets-more l o h c, sweep, c) at (k .fault);
+          count = omega (arith, k .count);
+        })
+
+    pub scan-falls : (p : ℕ) → b ≡ false → p ≡ next l o → length l - p < length l - o
+    scan-falls p e q = let c : cut l o ≡ false = sym eb ∙ e in omega (arith, uncut-span l o c, uncut-inside l o c)
+
+  pub scan-end : length l ≤ o → _≡_ {A = Scanned} (record { refusal = Passed; count = n }) (scanned l)
+  unfolding unplayable scanOf sweep orRefuse
+  scan-end h =
+      let f : Nowhere ≡ eventFault l = simp (offsets-end l o h) at (k .fault) in
+      let z : length (offsetsFrom l o) ≡ 0 = ap length (offsets-end l o h) in
+      let m : n ≡ length (eventsFrom l 0) = omega (arith, k .count) in
+      simp (le-ltb _ _ (k .short), ← f, m)
+
+pub ruleset scans = (scan-long, scan-start, scan-bad, scan-on, scan-falls, scan-end)

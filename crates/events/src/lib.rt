@@ -1,0 +1,120 @@
+// The event list: its scan, by refusal 9, and the event at an offset.
+use book::Refusal;
+use labels::Label;
+use machine::Event;
+ghost use mathlib.Core.Path.{_≡_};
+ghost use Prim.Native.Nat.{_<_};
+ghost use lib.ListN.{length};
+ghost use Rattle.events.specs.Bytes.{span, next, cut, eventAt, refusedScan, scanned};
+
+// What the scan of an event list gives: its refusal by 9, or how many events it has. After a refusal the count is 0.
+pub struct Scanned {
+    pub refusal: Refusal,
+    pub count: usize,
+}
+
+// The bytes of an event of a kind; 0 where no event has the kind.
+fn span_of(kind: u8) -> u8
+    ensures { λ r. ⌜ r ≡ span kind ⌝ }
+{
+    if kind == 80 {
+        return 2;
+    }
+    if kind == 81 {
+        return 8;
+    }
+    if kind == 82 {
+        return 4;
+    }
+    if kind == 83 {
+        return 8;
+    }
+    if kind == 84 {
+        return 3;
+    }
+    if kind == 85 {
+        return 3;
+    }
+    0
+}
+
+// The event at an offset has an unknown kind or a cut body.
+fn is_cut(list: &[u8], o: usize) -> bool
+    requires { ⌜ o < length (now list) ⌝ }
+    ensures { λ r. ⌜ r ≡ cut (now (list .entry)) o ⌝ }
+{
+    let k = list[o];
+    let w = span_of(k) as usize;
+    if w == 0 {
+        return true;
+    }
+    if list.len() - o < w {
+        return true;
+    }
+    false
+}
+
+// The offset past the event at an offset.
+pub fn next_event(list: &[u8], o: usize) -> usize
+    requires { ⌜ o < length (now list) ⌝ }
+    ensures { λ r. ⌜ r ≡ next (now (list .entry)) o ⌝ }
+{
+    let k = list[o];
+    let w = span_of(k);
+    o + w as usize
+}
+
+// The event at an offset.
+pub fn event_at(list: &[u8], o: usize) -> Event
+    requires { ⌜ o < length (now list) ⌝ }
+    ensures { λ r. ⌜ r ≡ eventAt (now (list .entry)) o ⌝ }
+{
+    let k = list[o];
+    let x = book::byte(list, o + 1);
+    let y = book::byte(list, o + 2);
+    let z = book::byte(list, o + 3);
+    match k {
+        80 => Event::StepOf(x),
+        81 => Event::WriteBy(Label(x), y, z, book::number(list, o + 4)),
+        82 => Event::RelabelBy(Label(x), y, Label(z)),
+        83 => Event::NewBy(Label(x), y, z, book::number(list, o + 4)),
+        84 => Event::ExecBy(Label(x), y),
+        _ => Event::StartBy(Label(x), y),
+    }
+}
+
+impl Scanned {
+    fn refused(place: usize) -> Scanned
+        ensures { λ r. ⌜ r ≡ refusedScan 9 place ⌝ }
+    {
+        Scanned {
+            refusal: Refusal::Refused {
+                number: 9,
+                place: place,
+            },
+            count: 0,
+        }
+    }
+}
+
+// Scans an event list: its refusal by 9, or its count of events.
+pub fn scan(list: &[u8]) -> Scanned
+    ensures { λ r. ⌜ r ≡ scanned (now (list .entry)) ⌝ }
+{
+    if 65536 < list.len() {
+        return Scanned::refused(0);
+    }
+    let mut o: usize = 0;
+    let mut n: usize = 0;
+    while o < list.len() {
+        if is_cut(list, o) {
+            return Scanned::refused(o);
+        }
+        o = next_event(list, o);
+        n = n + 1;
+    }
+    Scanned {
+        refusal: Refusal::Passed,
+        count: n,
+    }
+}
