@@ -1,0 +1,4 @@
+pub mod Parts
+pub mod Filling
+pub mod Coded
+pub mod Saved

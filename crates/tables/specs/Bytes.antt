@@ -1,0 +1,66 @@
+-- The records of a run as bytes: 01, "The machine". A table is lent memory of 64 records, one after the other, numbers little-endian.
+--     numberBytes, valueBytes, cellBytes, jobBytes     a number, and each record
+--     packed, cellTable, jobTable                      records one after the other; the whole tables
+--     storedRecord, cellRecordIn, jobRecordOf          the records of what the code holds
+--     savedCells, savedJobs                            the tables of what the code holds
+-- Assumes nothing.
+use Prim.Native.Nat.{ℕ, _%_, _/_}
+use mathlib.Core.List.{List, [], _∷_, _++_, map}
+use Rattle.labels.specs.declared.Trust.{Trust}
+use Rattle.book.specs.Outline.{pad, shapeIn}
+use Rattle.machine.specs.Records.{kindOf, numberOf, ValueRecord, CellRecord, JobRecord}
+use Rattle.acts.specs.declared.Stored.{Stored}
+use Rattle.acts.specs.declared.Cell.{Cell}
+use Rattle.acts.specs.declared.Job.{Job}
+
+-- "a number is 4 bytes, little-endian"
+abbrev pub numberBytes : ℕ → List ℕ
+numberBytes n = n % 256 ∷ n / 256 % 256 ∷ n / 65536 % 256 ∷ n / 16777216 % 256 ∷ []
+
+-- "A stored value is kind, number and source": 6 bytes
+abbrev pub valueBytes : ValueRecord → List ℕ
+valueBytes v = v .kind ∷ numberBytes (v .number) ++ v .source .0 ∷ []
+
+-- "A cell record holds shape, trust, label and value": 9 bytes
+abbrev pub cellBytes : CellRecord → List ℕ
+cellBytes c = c .shape ∷ c .trust .0 ∷ c .label .0 ∷ valueBytes (c .value)
+
+-- the records one after the other
+module _ {A : Type 0} (bytes : A → List ℕ) where
+  abbrev pub packed : List A → List ℕ
+  packed [] = []
+  packed (x ∷ xs) = bytes x ++ packed xs
+
+-- "a job record block, position .., label, registers and its own source": 52 bytes, the source before the registers. Block and position are
+-- one byte each; both are at most 64.
+abbrev pub jobBytes : JobRecord → List ℕ
+jobBytes j = j .block % 256 ∷ j .position % 256 ∷ j .label .0 ∷ j .source .0 ∷ packed valueBytes (j .registers)
+
+-- "Unused table entries are all zero after a run": 64 cells of 9 bytes, 64 jobs of 52
+unfoldable pub cellTable : List CellRecord → List ℕ
+cellTable cells = pad 576 0 (packed cellBytes cells)
+
+unfoldable pub jobTable : List JobRecord → List ℕ
+jobTable jobs = pad 3328 0 (packed jobBytes jobs)
+
+-- the records of the code's values, cells and jobs
+abbrev pub storedRecord : Stored → ValueRecord
+storedRecord v = record { kind = kindOf (v .value); number = numberOf (v .value); source = v .source }
+
+abbrev pub trustedRecord : Trust → Cell → CellRecord
+trustedRecord t c = record { shape = c .shape; trust = t; label = c .label; value = storedRecord (c .content) }
+
+-- the trust "fixed by its shape", by the table of shapes
+abbrev pub cellRecordIn : List ℕ → Cell → CellRecord
+cellRecordIn table c = trustedRecord (shapeIn table (c .shape) .trust) c
+
+abbrev pub jobRecordOf : Job → JobRecord
+jobRecordOf j =
+    record { block = j .block; position = j .position; label = j .label; registers = map storedRecord (j .registers); source = j .source }
+
+-- the tables of the cells and jobs in use
+unfoldable pub savedCells : List ℕ → List Cell → List ℕ
+savedCells table cells = cellTable (map (cellRecordIn table) cells)
+
+unfoldable pub savedJobs : List Job → List ℕ
+savedJobs jobs = jobTable (map jobRecordOf jobs)

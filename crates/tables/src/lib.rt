@@ -1,0 +1,139 @@
+// The records of a run, saved as bytes into the lent tables.
+use acts::Cell;
+use acts::Job;
+use acts::Stored;
+use book::Value;
+use labels::Trust;
+ghost use mathlib.Core.Path.{_≡_};
+ghost use Prim.Native.Nat.{_+_, _≤_};
+ghost use lib.ListN.{length, take};
+ghost use Rattle.machine.specs.Records.{kindOf, numberOf};
+ghost use Rattle.tables.specs.Bytes.{valueBytes, cellBytes, jobBytes, storedRecord, trustedRecord, jobRecordOf, savedCells, savedJobs};
+ghost use Rattle.tables.specs.Asked.{put, cleared};
+
+// Copies src into dst, from index at on.
+fn copy_in(dst: &mut [u8], at: usize, src: &[u8])
+    requires { ⌜ at + length (now src) ≤ length (now dst) ⌝ }
+    ensures { λ _. ⌜ now (dst .exit) ≡ put (now (dst .entry)) at (now (src .entry)) ⌝ }
+{
+    for j in 0..src.len() {
+        dst[at + j] = src[j];
+    }
+}
+
+// Zeros from index at on.
+fn clear_from(dst: &mut [u8], at: usize)
+    requires { ⌜ at ≤ length (now dst) ⌝ }
+    ensures { λ _. ⌜ now (dst .exit) ≡ cleared (now (dst .entry)) at ⌝ }
+{
+    for i in at..dst.len() {
+        dst[i] = 0;
+    }
+}
+
+fn kind_of(v: Value) -> u8
+    ensures { λ r. ⌜ r ≡ kindOf v ⌝ }
+{
+    match v {
+        Value::Plain(_) => 0,
+        Value::CellName(_) => 1,
+        Value::CodeName(_) => 2,
+    }
+}
+
+fn number_of(v: Value) -> u32
+    ensures { λ r. ⌜ r ≡ numberOf v ⌝ }
+{
+    match v {
+        Value::Plain(n) => n,
+        Value::CellName(k) => k,
+        Value::CodeName(b) => b,
+    }
+}
+
+// Kind, number, source.
+fn value_bytes(v: Stored) -> [u8; 6]
+    ensures { λ r. ⌜ r ≡ valueBytes (storedRecord v) ⌝ }
+{
+    let value = v.value;
+    let kind = kind_of(value);
+    let n = number_of(value);
+    [
+        kind,
+        (n % 256) as u8,
+        (n / 256 % 256) as u8,
+        (n / 65536 % 256) as u8,
+        (n / 16777216 % 256) as u8,
+        v.source.0,
+    ]
+}
+
+// Shape, trust, label, value.
+fn cell_bytes(c: Cell, trust: Trust) -> [u8; 9]
+    ensures { λ r. ⌜ r ≡ cellBytes (trustedRecord trust c) ⌝ }
+{
+    let content = c.content;
+    let b = value_bytes(content);
+    [
+        c.shape,
+        trust.0,
+        c.label.0,
+        b[0],
+        b[1],
+        b[2],
+        b[3],
+        b[4],
+        b[5],
+    ]
+}
+
+// Block, position, label, source, registers.
+fn job_bytes(j: Job) -> [u8; 52]
+    ensures { λ r. ⌜ r ≡ jobBytes (jobRecordOf j) ⌝ }
+{
+    let mut out = [0u8; 52];
+    out[0] = (j.block % 256) as u8;
+    out[1] = (j.position % 256) as u8;
+    out[2] = j.label.0;
+    out[3] = j.source.0;
+    let registers = j.registers;
+    let mut i: usize = 0;
+    while i < 8 {
+        let v = registers[i];
+        let b = value_bytes(v);
+        copy_in(&mut out, 4 + i * 6, &b);
+        i = i + 1;
+    }
+    out
+}
+
+// The first n cells as a table; their trusts are those of the table of shapes.
+pub fn save_cells(cells: [Cell; 64], n: usize, shapes: &[u8], out: &mut [u8])
+    requires { ⌜ (n ≤ 64) × (length (now out) ≡ 576) ⌝ }
+    ensures { λ _. ⌜ now (out .exit) ≡ savedCells (now (shapes .entry)) (take n cells) ⌝ }
+{
+    let mut i: usize = 0;
+    while i < n {
+        let c = cells[i];
+        let shape = book::shape_in(shapes, c.shape);
+        let b = cell_bytes(c, shape.trust);
+        copy_in(out, i * 9, &b);
+        i = i + 1;
+    }
+    clear_from(out, n * 9);
+}
+
+// The first m jobs as a table.
+pub fn save_jobs(jobs: [Job; 64], m: usize, out: &mut [u8])
+    requires { ⌜ (m ≤ 64) × (length (now out) ≡ 3328) ⌝ }
+    ensures { λ _. ⌜ now (out .exit) ≡ savedJobs (take m jobs) ⌝ }
+{
+    let mut i: usize = 0;
+    while i < m {
+        let j = jobs[i];
+        let b = job_bytes(j);
+        copy_in(out, i * 52, &b);
+        i = i + 1;
+    }
+    clear_from(out, m * 52);
+}
