@@ -1,0 +1,224 @@
+-- Laws of the run, for the code: what a callee gave stands as a variable with its equation.
+--     refusals      the stages' refusals
+--     finishes      a run that is not refused
+--     runs          the whole
+-- Assumes nothing.
+use mathlib.Core.Path.{_≡_, refl, sym, ap, _∙_}
+use mathlib.Core.Bool.{Bool, true, false}
+use mathlib.Core.List.{List, _++_, map}
+use Prim.Native.Nat.{ℕ, _-_, _<_, _≤_}
+use native.Mathlib.Omega.{arith}
+use lib.Dec.{ltb, eqb}
+use lib.ListN.{length, take, drop, length-map}
+use borrow.Author.Tests.{lt-ltb, le-ltb, ltb-false, eq-eqb, ne-eqb, eqb-true}
+use Rattle.labels.specs.declared.Label.{Label}
+use Rattle.book.specs.declared.Outline.{Outline}
+use Rattle.book.specs.declared.Reading.{Reading}
+use Rattle.book.specs.declared.Refusal.{Refusal}
+use Rattle.book.specs.declared.Refusal.the-variants.{Passed, Refused}
+use Rattle.book.specs.Control.{both}
+use Rattle.book.specs.Book.{parse}
+use Rattle.book.specs.Refusals.{unreadable}
+use Rattle.book.specs.Outline.{outlineOf, readingOf, reading}
+use Rattle.typing.proofs.Tables.{shape-is, starts-are, drawn-start}
+use Rattle.machine.specs.Histories.{lists, sources, source}
+use Rattle.machine.specs.States.{State}
+use Rattle.machine.specs.Events.{tableSize, launchLabel, freshState, stateAfter, answers}
+use Rattle.machine.specs.Images.{cellImage, jobImage, stateImage}
+use Rattle.machine.specs.Records.{cellRecord, jobRecord}
+use Rattle.machine.proofs.Sources.{source-law}
+use Rattle.events.specs.declared.Scanned.{Scanned}
+use Rattle.events.specs.Bytes.{eventsIn, unplayable, scanOf, scanned}
+use Rattle.acts.specs.Views.{cellOf, jobOf}
+use Rattle.tables.specs.Bytes.{cellTable, jobTable, savedCells, savedJobs}
+use Rattle.interpreter.specs.declared.Tables.{Tables}
+use Rattle.interpreter.specs.Loop.{Holds, opening, Ready, Playable, Runnable, Sized, Played}
+use Rattle.interpreter.specs.Run.{Run, orNext, untabled, unanswered, refusalBy, finalState, ranOf, ran}
+use Rattle.interpreter.proofs.Arrays.{front-long}
+use Rattle.interpreter.proofs.Records.{saved-cells, saved-jobs}
+
+module _ (read played : Refusal) (count cells jobs room : ℕ) where
+  pub refuse-read : (n o : ℕ) → read ≡ Refused n o → Refused n o ≡ refusalBy read played count cells jobs room
+  unfolding refusalBy orNext
+  refuse-read n o e = simp e
+
+  module _ (p : read ≡ Passed) where
+    pub refuse-played : (n o : ℕ) → played ≡ Refused n o → Refused n o ≡ refusalBy read played count cells jobs room
+    unfolding refusalBy orNext
+    refuse-played n o e = simp (p, e)
+
+    module _ (q : played ≡ Passed) where
+      pub refuse-cells : (cells ≡ 576 → ⊥) → Refused 10 0 ≡ refusalBy read played count cells jobs room
+      unfolding refusalBy orNext untabled both
+      refuse-cells n = simp (p, q, ne-eqb _ _ n)
+
+      pub refuse-jobs : cells ≡ 576 → (jobs ≡ 3328 → ⊥) → Refused 10 0 ≡ refusalBy read played count cells jobs room
+      unfolding refusalBy orNext untabled both
+      refuse-jobs c n = simp (p, q, eq-eqb _ _ c, ne-eqb _ _ n)
+
+      pub refuse-room : cells ≡ 576 → jobs ≡ 3328 → room < count → Refused 11 0 ≡ refusalBy read played count cells jobs room
+      unfolding refusalBy orNext untabled both unanswered
+      refuse-room c j h = simp (p, q, eq-eqb _ _ c, eq-eqb _ _ j, lt-ltb _ _ h)
+
+      pub refuse-none : cells ≡ 576 → jobs ≡ 3328 → count ≤ room → Passed ≡ refusalBy read played count cells jobs room
+      unfolding refusalBy orNext untabled both unanswered
+      refuse-none c j h = simp (p, q, eq-eqb _ _ c, eq-eqb _ _ j, le-ltb _ _ h)
+
+pub ruleset refusals = (refuse-read, refuse-played, refuse-cells, refuse-jobs, refuse-room, refuse-none)
+
+-- nothing is refused: each stage passed
+pub record Passes (read played : Refusal) (count cells jobs room : ℕ) : Type 0 where
+  pub read-is : read ≡ Passed
+  pub played-is : played ≡ Passed
+  pub cells-are : cells ≡ 576
+  pub jobs-are : jobs ≡ 3328
+  pub fits : count ≤ room
+
+passes : (read played : Refusal) (count cells jobs room : ℕ) → Passed ≡ refusalBy read played count cells jobs room → Passes read played count cells jobs room
+unfolding refusalBy orNext untabled both unanswered
+passes (Refused n o) played count cells jobs room e = let z : _≡_ {A = ℕ} 0 1 = cc in absurd (omega arith)
+passes Passed (Refused n o) count cells jobs room e = let z : _≡_ {A = ℕ} 0 1 = cc in absurd (omega arith)
+passes Passed Passed count cells jobs room e = go (eqb cells 576) refl (eqb jobs 3328) refl (ltb room count) refl
+  where
+    go : (a : Bool) → eqb cells 576 ≡ a → (b : Bool) → eqb jobs 3328 ≡ b → (c : Bool) → ltb room count ≡ c → Passes Passed Passed count cells jobs room
+    go true p true q false r =
+        record { read-is = refl; played-is = refl; cells-are = eqb-true cells 576 p; jobs-are = eqb-true jobs 3328 q; fits = ltb-false room count r }
+    go true p true q true r =
+        let x : Passed ≡ Refused 11 0 = simp (p, q, r) at e in let z : _≡_ {A = ℕ} 0 1 = cc in absurd (omega arith)
+    go true p false q c r = let x : Passed ≡ Refused 10 0 = simp (p, q) at e in let z : _≡_ {A = ℕ} 0 1 = cc in absurd (omega arith)
+    go false p b q c r = let x : Passed ≡ Refused 10 0 = simp p at e in let z : _≡_ {A = ℕ} 0 1 = cc in absurd (omega arith)
+
+-- the events of a list
+module _ (b : List ℕ) (t : Outline) (list before : List ℕ) (y : Playable b t list before) where
+  pub out-starts : t .counts .blocks ≤ length (t .start)
+  out-starts = drawn-start b (y .readable) t (y .outlined)
+
+  pub out-open : (unreadable b ≡ Passed) × (t ≡ outlineOf b)
+  out-open = (y .readable, y .outlined)
+
+  c-is : t .c ≡ parse b .c
+  unfolding outlineOf parse
+  c-is = ap (λ (t : Outline). t .c) (y .outlined)
+
+  pub out-ready : (first : Tables) → Holds b (opening b) (first .cells) (first .held) (first .jobs) (first .begun)
+      → Ready b (t .c) (t .shape) (take (t .counts .blocks - 0) (drop 0 (t .start))) first list before
+  out-ready first h =
+      record {
+        readable = y .readable;
+        c-is = c-is;
+        shapes-are = shape-is b (y .readable) t (y .outlined);
+        starts-are = starts-are b (y .readable) t (y .outlined);
+        opened = h;
+        playable = y .playable;
+        room = y .room;
+      }
+
+pub ruleset outs = (out-starts, out-open, out-ready)
+
+module _ (last : Tables) (cells jobs : List ℕ) (y : Sized last cells jobs) where
+  pub store-cells : (last .held ≤ 64) × (length cells ≡ 576)
+  store-cells = (y .cells-fit, y .cells-sized)
+
+  pub store-jobs : (last .begun ≤ 64) × (length jobs ≡ 3328)
+  store-jobs = (y .jobs-fit, y .jobs-sized)
+
+pub ruleset stores = (store-cells, store-jobs)
+
+-- a run that is not refused
+module _ (b : List ℕ) (t : Outline) (list cells jobs before : List ℕ) (y : Runnable b t list cells jobs before) where
+  module _ (last : Tables) (after : List ℕ) (w : Played b list before after last) where
+    pub finish-sized : Sized last cells jobs
+    finish-sized =
+        record { cells-fit = w .holds .cells-fit; jobs-fit = w .holds .jobs-fit; cells-sized = y .cells-sized; jobs-sized = y .jobs-sized }
+
+    images : stateImage source (finalState b list) ≡ stateAfter sources tableSize (parse b) (opening b) (eventsIn list)
+    images = source-law tableSize (parse b) .after-image (launchLabel (parse b)) (eventsIn list)
+
+    held-are : map cellOf (take (last .held) (last .cells)) ≡ map (cellImage source) (finalState b list .cells)
+    held-are = w .holds .cells-are ∙ ap (λ (s : State Label). s .cells) (sym images)
+
+    begun-are : map jobOf (take (last .begun) (last .jobs)) ≡ map (jobImage source) (finalState b list .jobs)
+    begun-are = w .holds .jobs-are ∙ ap (λ (s : State Label). s .jobs) (sym images)
+
+    pub finish-is : (cells′ jobs′ : List ℕ) → cells′ ≡ savedCells (t .shape) (take (last .held) (last .cells)) → jobs′ ≡ savedJobs (take (last .begun) (last .jobs))
+        → _≡_ {A = Run}
+        (record { refusal = Passed; cellCount = last .held; jobCount = last .begun; cells = cells′; jobs = jobs′; answered = after })
+        (ranOf Passed b list cells jobs before)
+    unfolding ranOf
+    finish-is cells′ jobs′ ec ej =
+        let k : last .held ≡ length (finalState b list .cells)
+        = sym (front-long cellOf (last .cells) (last .held) (omega (arith, w .holds .cells-long, w .holds .cells-fit))) ∙ ap length held-are
+        ∙ length-map (finalState b list .cells) (cellImage source) in
+        let m : last .begun ≡ length (finalState b list .jobs)
+        = sym (front-long jobOf (last .jobs) (last .begun) (omega (arith, w .holds .jobs-long, w .holds .jobs-fit))) ∙ ap length begun-are
+        ∙ length-map (finalState b list .jobs) (jobImage source) in
+        let u : cells′ ≡ cellTable (map (cellRecord (parse b)) (finalState b list .cells))
+        = ec ∙ saved-cells (parse b) (t .shape) (take (last .held) (last .cells)) (finalState b list .cells) (shape-is b (y .plays .readable) t (y .plays .outlined)) held-are in
+        let v : jobs′ ≡ jobTable (map jobRecord (finalState b list .jobs))
+        = ej ∙ saved-jobs (take (last .begun) (last .jobs)) (finalState b list .jobs) begun-are in
+        let a : after ≡ answers lists tableSize (parse b) (freshState lists (parse b) (launchLabel (parse b))) (eventsIn list) ++ drop (length (eventsIn list)) before
+        = w .answered
+        ∙ ap (λ (l : List ℕ). l ++ drop (length (eventsIn list)) before) (sym (source-law tableSize (parse b) .answers-image (launchLabel (parse b)) (eventsIn list))) in
+        rw (← k, ← m, ← u, ← v, ← a) refl
+
+-- r is what reading gave, s what the scan gave
+module _ (b list cells jobs before : List ℕ) (r : Reading) (er : r ≡ reading b) (s : Scanned) (es : s ≡ scanned list) where
+  read-is : r .refusal ≡ unreadable b
+  unfolding readingOf
+  read-is = ap (λ (r : Reading). r .refusal) er ∙ go (unreadable b)
+    where
+      go : (x : Refusal) → readingOf x b .refusal ≡ x
+      go Passed = refl
+      go (Refused n o) = refl
+
+  scan-is : s .refusal ≡ unplayable list
+  unfolding scanOf
+  scan-is = ap (λ (s : Scanned). s .refusal) es ∙ go (unplayable list)
+    where
+      go : (x : Refusal) → scanOf x (length (eventsIn list)) .refusal ≡ x
+      go Passed = refl
+      go (Refused n o) = refl
+
+  count-is : unplayable list ≡ Passed → s .count ≡ length (eventsIn list)
+  unfolding scanOf
+  count-is e = ap (λ (s : Scanned). s .count) es ∙ simp e
+
+  -- the count matters only where the list passed
+  by-count : (x y : Refusal) (n : ℕ) → (y ≡ Passed → s .count ≡ n)
+      → refusalBy x y (s .count) (length cells) (length jobs) (length before) ≡ refusalBy x y n (length cells) (length jobs) (length before)
+  unfolding refusalBy orNext
+  by-count (Refused n o) y m e = refl
+  by-count Passed (Refused n o) m e = refl
+  by-count Passed Passed m e = rw (e refl) refl
+
+  module _ (f : Refusal) (ef : f ≡ refusalBy (r .refusal) (s .refusal) (s .count) (length cells) (length jobs) (length before)) where
+    refusal-is : f ≡ refusalBy (unreadable b) (unplayable list) (length (eventsIn list)) (length cells) (length jobs) (length before)
+    refusal-is = ef ∙ rw (read-is, scan-is) (by-count (unreadable b) (unplayable list) (length (eventsIn list)) count-is)
+
+    pub run-refused : (n o : ℕ) → f ≡ Refused n o
+        → _≡_ {A = Run} (record { refusal = Refused n o; cellCount = 0; jobCount = 0; cells = cells; jobs = jobs; answered = before }) (ran b list cells jobs before)
+    unfolding ranOf
+    run-refused n o e = simp (← refusal-is, e)
+
+    pub run-runnable : f ≡ Passed → Runnable b (r .outline) list cells jobs before
+    unfolding readingOf
+    run-runnable e =
+        let p = passes (unreadable b) (unplayable list) (length (eventsIn list)) (length cells) (length jobs) (length before) (sym e ∙ refusal-is) in
+        record {
+          plays =
+              record {
+                readable = p .read-is;
+                outlined = ap (λ (r : Reading). r .outline) er ∙ simp (p .read-is);
+                playable = p .played-is;
+                room = p .fits;
+              };
+          cells-sized = p .cells-are;
+          jobs-sized = p .jobs-are;
+        }
+
+    pub run-passed : (x : Run) → f ≡ Passed → x ≡ ranOf Passed b list cells jobs before → x ≡ ran b list cells jobs before
+    run-passed x e ex = ex ∙ ap (λ f. ranOf f b list cells jobs before) (sym e ∙ refusal-is)
+
+pub ruleset finishes = (finish-sized, finish-is)
+
+pub ruleset runs = (run-refused, run-runnable, run-passed)

@@ -1,0 +1,118 @@
+-- The loop over the events, turn by turn.
+--     Going                                what holds at each turn
+--     going-start, going-turn, going-end   at the start, through a turn, at the end
+-- Assumes nothing.
+use mathlib.Core.Path.{_≡_, refl, sym, ap, _∙_}
+use mathlib.Core.List.{List, [], _∷_, _++_}
+use Prim.Native.Nat.{ℕ, zero, suc, _+_, _<_, _≤_}
+use native.Mathlib.Omega.{arith}
+use lib.ListN.{length, drop, getD, set}
+use Rattle.labels.specs.declared.Label.{Label}
+use Rattle.book.specs.Book.{parse}
+use Rattle.machine.specs.declared.Event.{Event}
+use Rattle.machine.specs.Histories.{sources}
+use Rattle.machine.specs.States.{State}
+use Rattle.machine.specs.Events.{tableSize, outcomeOf, stateAfter, answers}
+use Rattle.events.specs.Bytes.{next, eventAt, eventsFrom, eventsIn}
+use Rattle.events.proofs.Walks.{Whole, walk, events-end}
+use Rattle.acts.specs.declared.Cell.{Cell}
+use Rattle.acts.specs.declared.Job.{Job}
+use Rattle.interpreter.specs.declared.Deed.{Deed}
+use Rattle.interpreter.specs.declared.Tables.{Tables}
+use Rattle.interpreter.specs.Loop.{Holds, opening, Played}
+use Rattle.interpreter.proofs.Lands.{stateOf, Lands}
+
+drop-cons : (l : List ℕ) (i : ℕ) → i < length l → drop i l ≡ getD l i 0 ∷ drop (suc i) l
+drop-cons [] i h = absurd (omega arith)
+drop-cons (x ∷ xs) zero h = refl
+drop-cons (x ∷ xs) (suc i) h = drop-cons xs i (omega arith)
+
+set-seam : (xs : List ℕ) (y : ℕ) (ys : List ℕ) (a : ℕ) → set (xs ++ y ∷ ys) (length xs) a ≡ (xs ++ a ∷ []) ++ ys
+set-seam [] y ys a = refl
+set-seam (x ∷ xs) y ys a = ap (λ (l : List ℕ). x ∷ l) (set-seam xs y ys a)
+
+one-further : (xs : List ℕ) (a : ℕ) (ys : List ℕ) → (xs ++ a ∷ []) ++ ys ≡ xs ++ a ∷ ys
+one-further [] a ys = refl
+one-further (x ∷ xs) a ys = ap (λ (l : List ℕ). x ∷ l) (one-further xs a ys)
+
+one-longer : (xs : List ℕ) (a : ℕ) → length (xs ++ a ∷ []) ≡ length xs + 1
+one-longer [] a = refl
+one-longer (x ∷ xs) a = let e = one-longer xs a in omega arith
+
+nothing-more : (xs : List ℕ) → xs ++ [] ≡ xs
+nothing-more [] = refl
+nothing-more (x ∷ xs) = ap (λ (l : List ℕ). x ∷ l) (nothing-more xs)
+
+-- an answer is written behind those that stand
+answer-put : (said before : List ℕ) (at a : ℕ) → length said ≡ at → at < length before
+    → set (said ++ drop at before) at a ≡ (said ++ a ∷ []) ++ drop (at + 1) before
+answer-put said before at a e h =
+    let u : at + 1 ≡ suc at = omega arith in
+    let v : drop at before ≡ getD before at 0 ∷ drop (suc at) before = drop-cons before at h in
+    rw (v, u, ← e) (set-seam said (getD before (length said) 0) (drop (suc (length said)) before) a)
+
+-- of the book b and the list, with the answers as they were before
+pub record Going (b list before answers-now : List ℕ) (cells : List Cell) (n : ℕ) (jobs : List Job) (m at o : ℕ) : Type 0 where
+  pub state : State Label
+  pub holds : Holds b state cells n jobs m
+  pub rest : stateAfter sources tableSize (parse b) state (eventsFrom list o) ≡ stateAfter sources tableSize (parse b) (opening b) (eventsIn list)
+  pub said : List ℕ
+  pub said-long : length said ≡ at
+  pub all : said ++ answers sources tableSize (parse b) state (eventsFrom list o) ≡ answers sources tableSize (parse b) (opening b) (eventsIn list)
+  pub kept : answers-now ≡ said ++ drop at before
+  pub whole : Whole list o
+  pub left : at + length (eventsFrom list o) ≡ length (eventsIn list)
+
+pub going-start : (b list before : List ℕ) (r : Tables) → Whole list 0
+    → Holds b (opening b) (r .cells) (r .held) (r .jobs) (r .begun)
+    → Going b list before before (r .cells) (r .held) (r .jobs) (r .begun) 0 0
+going-start b list before r w h =
+    record { state = opening b; holds = h; rest = refl; said = []; said-long = refl; all = refl; kept = refl; whole = w; left = omega arith }
+
+module _ (b list before answers-now : List ℕ) (cells : List Cell) (n : ℕ) (jobs : List Job) (m at o : ℕ)
+    (g : Going b list before answers-now cells n jobs m at o) where
+  module _ (h : o < length list) (room : length (eventsIn list) ≤ length before) where
+    events-are : eventsFrom list o ≡ eventAt list o ∷ eventsFrom list (next list o)
+    events-are = walk list o (g .whole) h .events
+
+    pub answer-fits : at < length before
+    answer-fits = let e = ap length events-are in omega (arith, g .left, room)
+
+    module _ (e : Event) (ee : e ≡ eventAt list o) (p : ℕ) (ep : p ≡ next list o) (i k : ℕ) (z : Deed)
+        (lands : Lands b (g .state) m i k (outcomeOf sources tableSize (parse b) (g .state) e) z) where
+      here : eventsFrom list o ≡ e ∷ eventsFrom list p
+      here = events-are ∙ rw (ee, ep) refl
+
+      pub going-turn : (cells′ : List Cell) (n′ : ℕ) (jobs′ : List Job) (m′ : ℕ)
+          → Holds b (stateOf (g .state) i k (z .job) (z .effect)) cells′ n′ jobs′ m′
+          → Going b list before (set answers-now at (z .answer)) cells′ n′ jobs′ m′ (at + 1) p
+      unfolding stateAfter answers
+      going-turn cells′ n′ jobs′ m′ hold =
+          record {
+            state = stateOf (g .state) i k (z .job) (z .effect);
+            holds = hold;
+            rest =
+                sym (ap (λ (s : State Label). stateAfter sources tableSize (parse b) s (eventsFrom list p)) (lands .state))
+                ∙ sym (ap (stateAfter sources tableSize (parse b) (g .state)) here) ∙ g .rest;
+            said = g .said ++ z .answer ∷ [];
+            said-long = one-longer (g .said) (z .answer) ∙ ap (λ x. x + 1) (g .said-long);
+            all =
+                one-further (g .said) (z .answer) (answers sources tableSize (parse b) (stateOf (g .state) i k (z .job) (z .effect)) (eventsFrom list p))
+                ∙ rw (← lands .state, ← lands .answer) refl
+                ∙ sym (ap (λ (es : List Event). g .said ++ answers sources tableSize (parse b) (g .state) es) here) ∙ g .all;
+            kept = rw (g .kept) (answer-put (g .said) before at (z .answer) (g .said-long) answer-fits);
+            whole = rw ep (walk list o (g .whole) h .rest);
+            left = let q = ap length here in omega (arith, g .left);
+          }
+
+  pub going-end : (r : Tables) → length list ≤ o → r .cells ≡ cells → r .held ≡ n → r .jobs ≡ jobs → r .begun ≡ m
+      → Played b list before answers-now r
+  unfolding stateAfter answers
+  going-end r h ec en ej em =
+      let q : eventsFrom list o ≡ [] = events-end list o h in
+      let all-at : at ≡ length (eventsIn list) = let l = ap length q in omega (arith, g .left) in
+      let all-said : g .said ≡ answers sources tableSize (parse b) (opening b) (eventsIn list)
+      = sym (nothing-more (g .said)) ∙ sym (ap (λ (es : List Event). g .said ++ answers sources tableSize (parse b) (g .state) es) q) ∙ g .all in
+      let end : g .state ≡ stateAfter sources tableSize (parse b) (opening b) (eventsIn list)
+      = sym (ap (stateAfter sources tableSize (parse b) (g .state)) q) ∙ g .rest in
+      record { answered = g .kept ∙ rw (all-said, all-at) refl; holds = rw (ec, en, ej, em, ← end) (g .holds) }

@@ -1,0 +1,11 @@
+pub mod Planning
+pub mod Arrays
+pub mod Lands
+pub mod Events
+pub mod Holding
+pub mod Going
+pub mod Starts
+pub mod Playing
+pub mod Opened
+pub mod Records
+pub mod Finishing

@@ -1,0 +1,17 @@
+-- `plans::number_in` meets its contract. Assumes nothing.
+use borrow.Author.Needs.{needs}
+use Rattle.interpreter.proofs.Planning.{aims}
+use Rattle.interpreter.proofs.plans.number_in.Statement.{statement}
+use Rattle.interpreter.proofs.plans.number_in.Tie as tie
+
+register-of-requires : tie.Need-register-of-requires
+register-of-requires c κs = search needs
+
+number-of-requires : tie.Need-number-of-requires
+number-of-requires c κs = search needs
+
+returns : tie.Need-returns
+returns c = search (aims, needs)
+
+pub number-in-spec : {M : Type 1} → statement M
+number-in-spec = tie.close (tie.spec register-of-requires number-of-requires returns)

@@ -1,0 +1,25 @@
+-- `plans::see_event` meets its contract. Assumes nothing.
+use borrow.Author.Needs.{needs}
+use Rattle.interpreter.proofs.Planning.{sees}
+use Rattle.interpreter.proofs.plans.see_event.Statement.{statement}
+use Rattle.interpreter.proofs.plans.see_event.Tie as tie
+
+event-at-requires : tie.Need-event-at-requires
+event-at-requires c κs = search needs
+
+next-event-requires : tie.Need-next-event-requires
+next-event-requires c κs = search needs
+
+actor-of-requires : tie.Need-actor-of-requires
+actor-of-requires c κs = search needs
+
+clamp-requires : tie.Need-clamp-requires
+clamp-requires c κs = search needs
+
+returns : tie.Need-returns
+returns c = search (sees, needs)
+
+pub see-event-spec : {M : Type 1} → statement M
+see-event-spec =
+    tie.close
+    (tie.spec event-at-requires next-event-requires actor-of-requires clamp-requires returns)

@@ -1,0 +1,101 @@
+-- What the loop over the events holds, as the machine's state over sources.
+--     Placed        a job and the offset of its next step in the book
+--     Holds         the arrays hold a state
+--     startIn       where a block starts
+--     openedCells   the declared cells at the start
+--     Ready         what the loop asks for
+--     Runnable, ..  what a run that is not refused asks for
+--     Played        what it promises
+-- Assumes nothing.
+use Prim.Native.Nat.{ℕ, _<_, _≤_}
+use mathlib.Core.Path.{_≡_}
+use mathlib.Core.List.{List, map, _++_}
+use lib.Dec.{ltb}
+use lib.ListN.{length, take, drop, getD}
+use Rattle.labels.specs.declared.Label.{Label}
+use Rattle.labels.specs.Labels.{label}
+use Rattle.book.specs.declared.Declared.{Declared}
+use Rattle.book.specs.declared.Refusal.the-variants.{Passed}
+use Rattle.book.specs.Control.{if_then_else_}
+use Rattle.book.specs.Book.{parse, blocksOf, stepAt, stepsFrom, declaredAt}
+use Rattle.book.specs.Refusals.{noShape, unreadable}
+use Rattle.book.specs.declared.Outline.{Outline}
+use Rattle.book.specs.Outline.{shapeIn, startAt, outlineOf}
+use Rattle.book.specs.Asked.{Whole}
+use Rattle.machine.specs.States.{State}
+use Rattle.machine.specs.Histories.{sources}
+use Rattle.machine.specs.Events.{tableSize, launchLabel, blockOf, freshState, stateAfter, answers}
+use Rattle.events.specs.Bytes.{eventsIn, unplayable}
+use Rattle.acts.specs.declared.Cell.{Cell}
+use Rattle.acts.specs.declared.Job.{Job}
+use Rattle.acts.specs.Views.{cellOf, jobOf}
+use Rattle.interpreter.specs.declared.Tables.{Tables}
+
+-- in the book b the steps that are left of the job's block stand from j's offset on
+pub record Placed (b : List ℕ) (j : Job) : Type 0 where
+  pub inside : j .at ≤ length b
+  pub whole : Whole b (j .at)
+  pub left : map (stepAt b) (stepsFrom b (j .at)) ≡ drop (j .position) (blockOf (parse b) (j .block) .steps)
+  pub behind : j .position ≤ j .at
+
+-- n cells and m jobs at the front of the arrays are those of the state s
+pub record Holds (b : List ℕ) (s : State Label) (cells : List Cell) (n : ℕ) (jobs : List Job) (m : ℕ) : Type 0 where
+  pub cells-are : map cellOf (take n cells) ≡ s .cells
+  pub cells-long : length cells ≡ 64
+  pub cells-fit : n ≤ 64
+  pub jobs-are : map jobOf (take m jobs) ≡ s .jobs
+  pub jobs-long : length jobs ≡ 64
+  pub jobs-fit : m ≤ 64
+  pub some-job : 0 < m
+  -- those that are not in use too
+  pub placed : (i : ℕ) (d : Job) → i < 64 → Placed b (getD jobs i d)
+
+-- the machine's state at the start, over sources
+abbrev pub opening : List ℕ → State Label
+opening b = freshState sources (parse b) (launchLabel (parse b))
+
+-- by the table of the blocks' starts; a block that does not exist has no steps
+abbrev pub startIn : List ℕ → ℕ → ℕ → ℕ
+startIn starts x end = if ltb x (length starts) then getD starts x 0 else end
+
+-- a declared cell, as the run holds it: "Declared values have history 15."
+abbrev pub openedBy : Declared → Cell
+openedBy d = record { shape = d .shape; label = d .label; content = record { value = d .value; source = label 15 } }
+
+unfoldable pub openedCells : List ℕ → List ℕ → List Cell
+openedCells b os = map (λ o. openedBy (declaredAt b o)) os
+
+-- a readable book, its C, shapes and starts, its state at the start, an event list, and room for the answers
+pub record Ready (b : List ℕ) (c : Label) (shapes starts : List ℕ) (first : Tables) (list answers : List ℕ) : Type 0 where
+  pub readable : unreadable b ≡ Passed
+  pub c-is : c ≡ parse b .c
+  pub shapes-are : (i : ℕ) → shapeIn shapes i ≡ getD (parse b .shapes) i noShape
+  pub starts-are : starts ≡ map startAt (blocksOf b)
+  pub opened : Holds b (opening b) (first .cells) (first .held) (first .jobs) (first .begun)
+  pub playable : unplayable list ≡ Passed
+  pub room : length (eventsIn list) ≤ length answers
+
+-- a readable book and its outline, a list of events, and room for their answers
+pub record Playable (b : List ℕ) (t : Outline) (list answers : List ℕ) : Type 0 where
+  pub readable : unreadable b ≡ Passed
+  pub outlined : t ≡ outlineOf b
+  pub playable : unplayable list ≡ Passed
+  pub room : length (eventsIn list) ≤ length answers
+
+-- what no refusal holds of
+pub record Runnable (b : List ℕ) (t : Outline) (list cells jobs answers : List ℕ) : Type 0 where
+  pub plays : Playable b t list answers
+  pub cells-sized : length cells ≡ 576
+  pub jobs-sized : length jobs ≡ 3328
+
+-- tables of 64, and memory for them
+pub record Sized (r : Tables) (cells jobs : List ℕ) : Type 0 where
+  pub cells-fit : r .held ≤ 64
+  pub jobs-fit : r .begun ≤ 64
+  pub cells-sized : length cells ≡ 576
+  pub jobs-sized : length jobs ≡ 3328
+
+-- the answers are the machine's, then what stood there; the arrays hold the machine's state
+pub record Played (b list before after : List ℕ) (r : Tables) : Type 0 where
+  pub answered : after ≡ answers sources tableSize (parse b) (opening b) (eventsIn list) ++ drop (length (eventsIn list)) before
+  pub holds : Holds b (stateAfter sources tableSize (parse b) (opening b) (eventsIn list)) (r .cells) (r .held) (r .jobs) (r .begun)

@@ -1,0 +1,58 @@
+// The run of a job book.
+mod opening;
+mod plans;
+mod running;
+
+pub use running::run;
+
+mod play;
+
+use acts::Cell;
+use acts::Effect;
+use acts::Job;
+use book::Refusal;
+use book::Step;
+use machine::Event;
+
+// What an event asks for: an answer at once; the job's step and the offset past it; an outsider's act.
+pub enum Plan {
+    Halt(u8),
+    Take(Step, usize),
+    Act,
+}
+
+// The event at an offset, the offset past it, and the entry of the job that acts.
+pub struct Seen {
+    pub event: Event,
+    pub next: usize,
+    pub actor: usize,
+}
+
+// What an event asks for, the cell that is reached, and the entry at which it is looked up.
+pub struct Aim {
+    pub plan: Plan,
+    pub cell: usize,
+    pub entry: usize,
+}
+
+// What an event did: its answer, the job that acted as it now stands, and the effect on the tables.
+pub struct Deed {
+    pub answer: u8,
+    pub job: Job,
+    pub effect: Effect,
+}
+
+// The tables of a run: the cells held and the jobs begun stand at the front.
+pub struct Tables {
+    pub cells: [Cell; 64],
+    pub jobs: [Job; 64],
+    pub held: usize,
+    pub begun: usize,
+}
+
+// What a run gives: its refusal, or the cells and jobs in use. After a refusal both are 0.
+pub struct Ran {
+    pub refusal: Refusal,
+    pub cells: usize,
+    pub jobs: usize,
+}

@@ -1,0 +1,248 @@
+// An event, up to what it does to the tables.
+use crate::Aim;
+use crate::Deed;
+use crate::Plan;
+use crate::Seen;
+use acts::Effect;
+use acts::Job;
+use acts::Near;
+use book::Step;
+use book::StepAt;
+use book::Value;
+use labels::Label;
+use machine::Event;
+ghost use mathlib.Core.Path.{_≡_};
+ghost use Prim.Native.Nat.{_<_, _≤_};
+ghost use Rattle.book.specs.Outline.{shapeIn};
+ghost use Rattle.machine.specs.Records.{numberOf};
+ghost use Rattle.acts.specs.Views.{jobOf, numberIn, reachedBy};
+ghost use Rattle.acts.specs.Outside.{aimedAt};
+ghost use Rattle.interpreter.specs.Plans.{actPlan, planOf, clamped, actorOf, aimOf, answerOf, Performs, Sees, Aims};
+ghost use Rattle.machine.specs.declared.Event.the-variants.{StepOf};
+ghost use lib.ListN.{length};
+
+fn plan_act(such: bool) -> Plan
+    ensures { λ x. ⌜ x ≡ actPlan such ⌝ }
+{
+    if such {
+        return Plan::Act;
+    }
+    Plan::Halt(3)
+}
+
+fn plan_step(
+    book: &[u8],
+    c: Label,
+    shapes: &[u8],
+    blocks: usize,
+    cells: usize,
+    jobs: usize,
+    i: u8,
+    o: usize,
+) -> Plan
+    ensures { λ x. ⌜ x ≡ planOf (now (book .entry)) c (shapeIn (now (shapes .entry))) blocks cells jobs (StepOf i) o ⌝ }
+{
+    if (i as usize) < jobs {
+        let StepAt::StepThere(p, next) = book::step_at(book, o) else {
+            return Plan::Halt(2);
+        };
+        return Plan::Take(p, next);
+    }
+    Plan::Halt(3)
+}
+
+// What an event asks for, where the next step of the job that acts is at o.
+pub fn plan_event(
+    book: &[u8],
+    c: Label,
+    shapes: &[u8],
+    blocks: usize,
+    cells: usize,
+    jobs: usize,
+    e: Event,
+    o: usize,
+) -> Plan
+    ensures { λ x. ⌜ x ≡ planOf (now (book .entry)) c (shapeIn (now (shapes .entry))) blocks cells jobs e o ⌝ }
+{
+    let such = acts::is_such(c, shapes, blocks, cells, e);
+    match e {
+        Event::StepOf(i) => plan_step(book, c, shapes, blocks, cells, jobs, i, o),
+        Event::WriteBy(_, _, _, _) => plan_act(such),
+        Event::RelabelBy(_, _, _) => plan_act(such),
+        Event::NewBy(_, _, _, _) => plan_act(such),
+        Event::ExecBy(_, _) => plan_act(such),
+        Event::StartBy(_, _) => plan_act(such),
+    }
+}
+
+// A number in a table of 64.
+pub fn clamp(k: usize) -> usize
+    ensures { λ r. ⌜ (r ≡ clamped k) × (r < 64) ⌝ }
+{
+    if k < 64 {
+        return k;
+    }
+    0
+}
+
+// The job that acts; for an outsider job 0.
+pub fn actor_of(e: Event) -> usize
+    ensures { λ r. ⌜ r ≡ actorOf e ⌝ }
+{
+    match e {
+        Event::StepOf(i) => i as usize,
+        Event::WriteBy(_, _, _, _) => 0,
+        Event::RelabelBy(_, _, _) => 0,
+        Event::NewBy(_, _, _, _) => 0,
+        Event::ExecBy(_, _) => 0,
+        Event::StartBy(_, _) => 0,
+    }
+}
+
+fn number_of(v: Value) -> usize
+    ensures { λ r. ⌜ r ≡ numberOf v ⌝ }
+{
+    match v {
+        Value::Plain(n) => n as usize,
+        Value::CellName(n) => n as usize,
+        Value::CodeName(n) => n as usize,
+    }
+}
+
+fn number_in(j: Job, w: u8) -> usize
+    ensures { λ r. ⌜ r ≡ numberIn (jobOf j) w ⌝ }
+{
+    let x = acts::register_of(j, w);
+    let v = x.value;
+    number_of(v)
+}
+
+// The cell that a step reaches.
+fn reached_by(p: Step, j: Job) -> usize
+    ensures { λ r. ⌜ r ≡ reachedBy p (jobOf j) ⌝ }
+{
+    match p {
+        Step::Put(_, _) => 0,
+        Step::Name(_, _) => 0,
+        Step::Code(_, _) => 0,
+        Step::Add(_, _, _) => 0,
+        Step::New(_, _, _) => 0,
+        Step::Read(_, w) => number_in(j, w),
+        Step::Write(w, _) => number_in(j, w),
+        Step::Relabel(w, _) => number_in(j, w),
+        Step::Lower(_) => 0,
+        Step::Start(_) => 0,
+        Step::Exec(w) => number_in(j, w),
+    }
+}
+
+// The cell that an outsider reaches.
+fn aimed_at(e: Event) -> usize
+    ensures { λ r. ⌜ r ≡ aimedAt e ⌝ }
+{
+    match e {
+        Event::StepOf(_) => 0,
+        Event::WriteBy(_, k, _, _) => k as usize,
+        Event::RelabelBy(_, k, _) => k as usize,
+        Event::NewBy(_, _, _, _) => 0,
+        Event::ExecBy(_, k) => k as usize,
+        Event::StartBy(_, _) => 0,
+    }
+}
+
+// The cell that is reached.
+pub fn aim_of(plan: Plan, e: Event, j: Job) -> usize
+    ensures { λ r. ⌜ r ≡ aimOf plan e (jobOf j) ⌝ }
+{
+    match plan {
+        Plan::Halt(_) => 0,
+        Plan::Take(p, _) => reached_by(p, j),
+        Plan::Act => aimed_at(e),
+    }
+}
+
+fn answer_of(effect: Effect) -> u8
+    ensures { λ r. ⌜ r ≡ answerOf effect ⌝ }
+{
+    match effect {
+        Effect::Blocked => 1,
+        Effect::Keep => 0,
+        Effect::Store(_) => 0,
+        Effect::Create(_) => 0,
+        Effect::Launch(_, _, _) => 0,
+    }
+}
+
+// Does what the plan says, on the job that acts and on what is near it.
+pub fn perform(plan: Plan, e: Event, j: Job, near: Near) -> Deed
+    requires { ⌜ (j .position < 65536) × (near .cells ≤ 64) ⌝ }
+    ensures { λ x. ⌜ Performs e j near plan x ⌝ }
+{
+    match plan {
+        Plan::Halt(a) => Deed {
+            answer: a,
+            job: j,
+            effect: Effect::Blocked,
+        },
+        Plan::Take(p, next) => {
+            let t = acts::take_step(p, j, near);
+            let mut job = t.job;
+            job.at = next;
+            let effect = t.effect;
+            let answer = answer_of(effect);
+            Deed {
+                answer: answer,
+                job: job,
+                effect: effect,
+            }
+        }
+        Plan::Act => {
+            let effect = acts::act_outside(e, near);
+            let answer = answer_of(effect);
+            Deed {
+                answer: answer,
+                job: j,
+                effect: effect,
+            }
+        }
+    }
+}
+
+// The event at an offset of the list, the offset past it, and the job that acts.
+pub fn see_event(list: &[u8], o: usize) -> Seen
+    requires { ⌜ o < length (now list) ⌝ }
+    ensures { λ x. ⌜ Sees (now (list .entry)) o x ⌝ }
+{
+    let event = events::event_at(list, o);
+    let next = events::next_event(list, o);
+    let actor = actor_of(event);
+    let entry = clamp(actor);
+    Seen {
+        event: event,
+        next: next,
+        actor: entry,
+    }
+}
+
+// What the event asks for, and the cell that is reached.
+pub fn take_aim(
+    book: &[u8],
+    c: Label,
+    shapes: &[u8],
+    blocks: usize,
+    cells: usize,
+    jobs: usize,
+    e: Event,
+    j: Job,
+) -> Aim
+    ensures { λ x. ⌜ Aims (now (book .entry)) c (shapeIn (now (shapes .entry))) blocks cells jobs e j x ⌝ }
+{
+    let plan = plan_event(book, c, shapes, blocks, cells, jobs, e, j.at);
+    let cell = aim_of(plan, e, j);
+    let entry = clamp(cell);
+    Aim {
+        plan: plan,
+        cell: cell,
+        entry: entry,
+    }
+}

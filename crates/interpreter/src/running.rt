@@ -1,0 +1,136 @@
+// The run of a book: refusals, then the events, then the lent tables.
+use crate::Ran;
+use crate::Tables;
+use crate::opening;
+use crate::play;
+use book::Outline;
+use book::Refusal;
+ghost use mathlib.Core.Path.{_≡_};
+ghost use lib.ListN.{take};
+ghost use Rattle.book.specs.declared.Refusal.the-variants.{Passed};
+ghost use Rattle.tables.specs.Bytes.{savedCells, savedJobs};
+ghost use Rattle.interpreter.specs.Run.{Run, refusalBy, ranOf, ran};
+ghost use Rattle.interpreter.specs.Loop.{Playable, Played, Sized, Runnable};
+
+// The first refusal of the stages: of the book, of the event list, of the tables, of the answer buffer.
+fn refuse(
+    read: Refusal,
+    played: Refusal,
+    count: usize,
+    cells: usize,
+    jobs: usize,
+    room: usize,
+) -> Refusal
+    ensures { λ r. ⌜ r ≡ refusalBy read played count cells jobs room ⌝ }
+{
+    if let Refusal::Refused { number, place } = read {
+        return Refusal::Refused {
+            number: number,
+            place: place,
+        };
+    }
+    if let Refusal::Refused { number, place } = played {
+        return Refusal::Refused {
+            number: number,
+            place: place,
+        };
+    }
+    if cells != 576 {
+        return Refusal::Refused {
+            number: 10,
+            place: 0,
+        };
+    }
+    if jobs != 3328 {
+        return Refusal::Refused {
+            number: 10,
+            place: 0,
+        };
+    }
+    if room < count {
+        return Refusal::Refused {
+            number: 11,
+            place: 0,
+        };
+    }
+    Refusal::Passed
+}
+
+// The events of a list on a book that was read.
+fn play_out(book: &[u8], t: Outline, list: &[u8], answers: &mut [u8]) -> Tables
+    requires { ⌜ Playable (now book) t (now list) (now answers) ⌝ }
+    ensures { λ r. ⌜ Played (now (book .entry)) (now (list .entry)) (now (answers .entry)) (now (answers .exit)) r ⌝ }
+{
+    let shapes = t.shape;
+    let start = t.start;
+    let n = t.counts;
+    let blocks = n.blocks;
+    let first = opening::open_run(book, t);
+    play::play(book, t.c, &shapes, &start[0..blocks], first, list, answers)
+}
+
+// The tables as bytes.
+fn store(t: Outline, last: Tables, cells: &mut [u8], jobs: &mut [u8])
+    requires { ⌜ Sized last (now cells) (now jobs) ⌝ }
+    ensures { λ _. ⌜ (now (cells .exit) ≡ savedCells (t .shape) (take (last .held) (last .cells))) × (now (jobs .exit) ≡ savedJobs (take (last .begun) (last .jobs))) ⌝ }
+{
+    let shapes = t.shape;
+    let last_cells = last.cells;
+    let last_jobs = last.jobs;
+    tables::save_cells(last_cells, last.held, &shapes, cells);
+    tables::save_jobs(last_jobs, last.begun, jobs);
+}
+
+// Runs what no refusal holds of.
+fn finish(
+    book: &[u8],
+    t: Outline,
+    list: &[u8],
+    cells: &mut [u8],
+    jobs: &mut [u8],
+    answers: &mut [u8],
+) -> Ran
+    requires { ⌜ Runnable (now book) t (now list) (now cells) (now jobs) (now answers) ⌝ }
+    ensures { λ r. ⌜ _≡_ {A = Run} (record { refusal = r .refusal; cellCount = r .cells; jobCount = r .jobs; cells = now (cells .exit); jobs = now (jobs .exit); answered = now (answers .exit) }) (ranOf Passed (now (book .entry)) (now (list .entry)) (now (cells .entry)) (now (jobs .entry)) (now (answers .entry))) ⌝ }
+{
+    let last = play_out(book, t, list, answers);
+    store(t, last, cells, jobs);
+    Ran {
+        refusal: Refusal::Passed,
+        cells: last.held,
+        jobs: last.begun,
+    }
+}
+
+// Runs the events of a list on a book. Refused by 1 to 6 and 9 to 11, and then nothing is written; else the answers, and the tables of cells
+// and jobs, unused entries zero, answers beyond the events kept.
+pub fn run(book: &[u8], list: &[u8], cells: &mut [u8], jobs: &mut [u8], answers: &mut [u8]) -> Ran
+    ensures { λ r. ⌜ _≡_ {A = Run} (record { refusal = r .refusal; cellCount = r .cells; jobCount = r .jobs; cells = now (cells .exit); jobs = now (jobs .exit); answered = now (answers .exit) }) (ran (now (book .entry)) (now (list .entry)) (now (cells .entry)) (now (jobs .entry)) (now (answers .entry))) ⌝ }
+{
+    let r = book::read(book);
+    let s = events::scan(list);
+    let read = r.refusal;
+    let played = s.refusal;
+    let refusal = refuse(
+        read,
+        played,
+        s.count,
+        cells.len(),
+        jobs.len(),
+        answers.len(),
+    );
+    match refusal {
+        Refusal::Refused { number, place } => Ran {
+            refusal: Refusal::Refused {
+                number: number,
+                place: place,
+            },
+            cells: 0,
+            jobs: 0,
+        },
+        Refusal::Passed => {
+            let t = r.outline;
+            finish(book, t, list, cells, jobs, answers)
+        }
+    }
+}
