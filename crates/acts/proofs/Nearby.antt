@@ -31,7 +31,7 @@ use Rattle.acts.specs.Views.{cellOf, nearby, numberIn, reachedBy}
 use Rattle.acts.specs.Outside.{aimedAt, outside}
 use Rattle.acts.proofs.Acting.{same-some, same-none}
 
-past-none : {A : Type 0} (l : List A) (k : ℕ) → length l ≤ k → getElem? l k ≡ none
+pub past-none : {A : Type 0} (l : List A) (k : ℕ) → length l ≤ k → getElem? l k ≡ none
 past-none [] k h = refl
 past-none (x ∷ xs) zero h = absurd (omega arith)
 past-none (x ∷ xs) (suc k) h = past-none xs k (omega arith)

@@ -3,12 +3,11 @@
 -- Assumes nothing.
 use mathlib.Core.Path.{_≡_, refl, ap, _∙_}
 use mathlib.Core.Bool.{Bool, true, false}
-use mathlib.Core.Option.{none}
-use mathlib.Core.List.{List, [], _∷_}
-use Prim.Native.Nat.{ℕ, zero, suc, _<_, _≤_}
+use mathlib.Core.List.{List}
+use Prim.Native.Nat.{ℕ, _<_, _≤_}
 use native.Mathlib.Omega.{arith}
 use lib.Dec.{ltb}
-use lib.ListN.{length, getD, getElem?}
+use lib.ListN.{length, getD}
 use borrow.Author.Tests.{lt-ltb, ltb-true, ltb-false}
 use Rattle.labels.specs.declared.Label.{Label}
 use Rattle.book.specs.declared.Shape.{Shape}
@@ -28,17 +27,13 @@ use Rattle.acts.specs.declared.Cell.{Cell}
 use Rattle.acts.specs.declared.Job.{Job}
 use Rattle.acts.specs.Views.{jobOf}
 use Rattle.acts.specs.Outside.{lowCellShape, suchValue, suchWrite, suchRelabel, suchNew, suchNumber, such, outside}
+use Rattle.acts.proofs.Nearby.{past-none}
 use Rattle.interpreter.specs.declared.Plan.{Plan}
 use Rattle.interpreter.specs.declared.Plan.the-variants.{Halt, Take, Act}
 use Rattle.interpreter.specs.declared.Deed.{Deed}
 use Rattle.interpreter.specs.Plans.{stepPlan, actPlan, planOf, clamped, actorOf, aimOf, Performs}
 use Rattle.interpreter.specs.Loop.{Holds}
 use Rattle.interpreter.proofs.Lands.{Lands, at-once, job-there, jobs-in-use, cells-in-use, step-none, lands-taken, lands-acted}
-
-past-none : {A : Type 0} (l : List A) (k : ℕ) → length l ≤ k → getElem? l k ≡ none
-past-none [] k h = refl
-past-none (x ∷ xs) zero h = absurd (omega arith)
-past-none (x ∷ xs) (suc k) h = past-none xs k (omega arith)
 
 -- the shapes and the number of blocks of the book b, as the loop knows them
 module _ (b : List ℕ) (shape : ℕ → Shape) (shapes-are : (i : ℕ) → shape i ≡ getD (parse b .shapes) i noShape) (blocks : ℕ)

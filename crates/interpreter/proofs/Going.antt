@@ -4,8 +4,9 @@
 -- Assumes nothing.
 use mathlib.Core.Path.{_≡_, refl, sym, ap, _∙_}
 use mathlib.Core.List.{List, [], _∷_, _++_}
-use Prim.Native.Nat.{ℕ, zero, suc, _+_, _<_, _≤_}
+use Prim.Native.Nat.{ℕ, suc, _+_, _<_, _≤_}
 use native.Mathlib.Omega.{arith}
+use lib.Seq.{drop-cons, set-append-seam}
 use lib.ListN.{length, drop, getD, set}
 use Rattle.labels.specs.declared.Label.{Label}
 use Rattle.book.specs.Book.{parse}
@@ -21,15 +22,6 @@ use Rattle.interpreter.specs.declared.Deed.{Deed}
 use Rattle.interpreter.specs.declared.Tables.{Tables}
 use Rattle.interpreter.specs.Loop.{Holds, opening, Played}
 use Rattle.interpreter.proofs.Lands.{stateOf, Lands}
-
-drop-cons : (l : List ℕ) (i : ℕ) → i < length l → drop i l ≡ getD l i 0 ∷ drop (suc i) l
-drop-cons [] i h = absurd (omega arith)
-drop-cons (x ∷ xs) zero h = refl
-drop-cons (x ∷ xs) (suc i) h = drop-cons xs i (omega arith)
-
-set-seam : (xs : List ℕ) (y : ℕ) (ys : List ℕ) (a : ℕ) → set (xs ++ y ∷ ys) (length xs) a ≡ (xs ++ a ∷ []) ++ ys
-set-seam [] y ys a = refl
-set-seam (x ∷ xs) y ys a = ap (λ (l : List ℕ). x ∷ l) (set-seam xs y ys a)
 
 one-further : (xs : List ℕ) (a : ℕ) (ys : List ℕ) → (xs ++ a ∷ []) ++ ys ≡ xs ++ a ∷ ys
 one-further [] a ys = refl
@@ -48,8 +40,10 @@ answer-put : (said before : List ℕ) (at a : ℕ) → length said ≡ at → at
     → set (said ++ drop at before) at a ≡ (said ++ a ∷ []) ++ drop (at + 1) before
 answer-put said before at a e h =
     let u : at + 1 ≡ suc at = omega arith in
-    let v : drop at before ≡ getD before at 0 ∷ drop (suc at) before = drop-cons before at h in
-    rw (v, u, ← e) (set-seam said (getD before (length said) 0) (drop (suc (length said)) before) a)
+    let v : drop at before ≡ getD before at 0 ∷ drop (suc at) before = drop-cons before at 0 h in
+    rw (v, u, ← e)
+    (set-append-seam said (getD before (length said) 0) (drop (suc (length said)) before) a
+    ∙ sym (one-further said a (drop (suc (length said)) before)))
 
 -- of the book b and the list, with the answers as they were before
 pub record Going (b list before answers-now : List ℕ) (cells : List Cell) (n : ℕ) (jobs : List Job) (m at o : ℕ) : Type 0 where

@@ -4,9 +4,9 @@
 -- Assumes nothing.
 use mathlib.Core.Path.{_≡_, refl, sym, ap, _∙_}
 use mathlib.Core.List.{List, [], _∷_, _++_, map}
-use Prim.Native.Nat.{ℕ, zero, suc, _+_, _-_, _<_, _≤_}
+use Prim.Native.Nat.{ℕ, suc, _+_, _-_, _<_, _≤_}
 use native.Mathlib.Omega.{arith}
-use lib.ListN.{length, take, drop, getD, set, replicate, length-set}
+use lib.ListN.{getD-replicate, length, take, drop, getD, set, replicate, length-set}
 use lib.Seq.{take-suc, take-suc-set, take-length}
 use Rattle.labels.specs.declared.Label.{Label}
 use Rattle.labels.specs.Labels.{label}
@@ -95,11 +95,6 @@ unfolding openedCells
 declared-are b [] = refl
 declared-are b (o ∷ os) = ap (λ (l : List (States.Cell Label)). cellOf (openedBy (declaredAt b o)) ∷ l) (declared-are b os)
 
-same-get : {A : Type 0} (n i : ℕ) (x d : A) → i < n → getD (replicate n x) i d ≡ x
-same-get zero i x d h = absurd (omega arith)
-same-get (suc n) zero x d h = refl
-same-get (suc n) (suc i) x d h = same-get n i x d (omega arith)
-
 -- the outline t of a readable book b
 module _ (b : List ℕ) (t : Outline) (ok : unreadable b ≡ Passed) (et : t ≡ outlineOf b) where
   pub open-cells-end : t .counts .cells ≤ length (t .cell)
@@ -144,7 +139,7 @@ module _ (b : List ℕ) (t : Outline) (ok : unreadable b ≡ Passed) (et : t ≡
         jobs-long = refl;
         jobs-fit = omega arith;
         some-job = omega arith;
-        placed = λ i d h. rw (same-get 64 i j d h) (placed-fresh b ok (take (t .counts .blocks - 0) (drop 0 (t .start))) (starts-are b ok t et) j 0 eb ep (eat ∙ ea));
+        placed = λ i d h. rw (getD-replicate 64 i j d h) (placed-fresh b ok (take (t .counts .blocks - 0) (drop 0 (t .start))) (starts-are b ok t et) j 0 eb ep (eat ∙ ea));
       }
 
 pub ruleset opens = (open-cells-end, open-starts-end, open-listed, opened)
