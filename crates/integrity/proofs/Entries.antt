@@ -34,6 +34,11 @@ module _ {A : Type 0} (P : A → Type 0) where
   all-get (x ∷ xs) zero d h p = h .0
   all-get (x ∷ xs) (suc i) d h p = all-get xs i d (h .1) p
 
+  pub all-in : (l : List A) (a : A) → All l → List·Memᴰ a l → P a
+  all-in [] a h m = absurd (List·Memᴰ·not-nil m)
+  all-in (x ∷ xs) a h (List·Memᴰ·head e) = rw e (h .0)
+  all-in (x ∷ xs) a h (List·Memᴰ·tail m) = all-in xs a (h .1) m
+
 -- an entry of a list, where its image is one of the mapped list; and back
 pub map-all : {A B : Type 0} (f : A → B) (P : B → Type 0) (l : List A) (a : A) → All P (map f l) → List·Memᴰ a l → P (f a)
 map-all f P [] a h m = absurd (List·Memᴰ·not-nil m)

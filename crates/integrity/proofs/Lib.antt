@@ -15,6 +15,9 @@ pub mod Begins
 pub mod Bridge
 pub mod Sentences
 pub mod Integrity
+pub mod Eight
+pub mod Packed
+pub mod Tables
 pub mod ByRules
 pub mod Tested
 pub mod Weakened
