@@ -60,7 +60,8 @@ fn wide(b: u8) -> usize
     b as usize
 }
 
-fn next_length() -> Next {
+// The next length of the file.
+pub fn next_length() -> Next {
     let mut bytes = [0u8; 4];
     let n = io::read_full(STDIN_FILENO, &mut bytes);
     if n < 4 {
