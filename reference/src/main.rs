@@ -6,6 +6,7 @@
 //! `reference verdict` reads such a file on standard input and prints one verdict per book.
 //! `reference runs` writes the file of test runs.
 //! `reference run-answers` reads such a file on standard input and prints one line per run.
+//! `reference run BOOK EVENTS` prints in words what the events of a file do on the book in another.
 //! `reference differ N` compares the two machines of the reference on N runs by chance.
 //! `reference check FILE` prints the verdict on the one book in a file.
 
@@ -16,11 +17,11 @@ use std::io::{self, Read, Write};
 use std::process::ExitCode;
 
 const USAGE: &str = "usage: reference books | read | check-books | verdict | runs | run-answers
-       | differ N | check FILE";
+       | run BOOK EVENTS | differ N | check FILE";
 
 fn main() -> ExitCode {
     let mut arguments = std::env::args_os().skip(1);
-    match run(arguments.next(), arguments.next()) {
+    match run(arguments.next(), arguments.next(), arguments.next()) {
         Ok(()) => ExitCode::SUCCESS,
         Err(error) => {
             eprintln!("reference: {error}");
@@ -29,7 +30,11 @@ fn main() -> ExitCode {
     }
 }
 
-fn run(command: Option<OsString>, path: Option<OsString>) -> io::Result<()> {
+fn run(
+    command: Option<OsString>,
+    path: Option<OsString>,
+    events: Option<OsString>,
+) -> io::Result<()> {
     let word = command.as_ref().and_then(|word| word.to_str());
     match (word, path) {
         (Some("books"), _) => write_books(&generate::books()),
@@ -38,6 +43,7 @@ fn run(command: Option<OsString>, path: Option<OsString>) -> io::Result<()> {
         (Some("verdict"), _) => print_lines(|_, book| check(book)),
         (Some("runs"), _) => io::stdout().write_all(&runs::file::join(&runs::all())),
         (Some("run-answers"), _) => print_answers(),
+        (Some("run"), Some(path)) => print_run(path, events),
         (Some("differ"), Some(count)) => print_difference(count),
         (Some("check"), Some(path)) => print_verdict(path),
         _ => Err(io::Error::other(USAGE)),
@@ -71,6 +77,13 @@ fn print_answers() -> io::Result<()> {
         writeln!(out, "{}", runs::answer::line(&run))?;
     }
     out.flush()
+}
+
+fn print_run(book: OsString, events: Option<OsString>) -> io::Result<()> {
+    let events = events.ok_or_else(|| io::Error::other(USAGE))?;
+    let (book, events) = (std::fs::read(book)?, std::fs::read(events)?);
+    print!("{}", runs::words::text(&runs::Run::new(book, events)));
+    Ok(())
 }
 
 /// The seed of the runs by chance.

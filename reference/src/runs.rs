@@ -16,6 +16,7 @@ mod refused;
 mod samples;
 #[cfg(test)]
 mod tests;
+pub mod words;
 
 use crate::generate::Bytes;
 use crate::machine::{event, CELLS_SIZE, JOBS_SIZE};
