@@ -131,6 +131,9 @@ module _ (b : List ℕ) (t : Outline) (list cells jobs before : List ℕ) (y : R
     finish-sized =
         record { cells-fit = w .holds .cells-fit; jobs-fit = w .holds .jobs-fit; cells-sized = y .cells-sized; jobs-sized = y .jobs-sized }
 
+    pub finish-fits : (last .held ≤ 64) × (last .begun ≤ 64)
+    finish-fits = (w .holds .cells-fit, w .holds .jobs-fit)
+
     images : stateImage source (finalState b list) ≡ stateAfter sources tableSize (parse b) (opening b) (eventsIn list)
     images = source-law tableSize (parse b) .after-image (launchLabel (parse b)) (eventsIn list)
 
@@ -219,6 +222,6 @@ module _ (b list cells jobs before : List ℕ) (r : Reading) (er : r ≡ reading
     pub run-passed : (x : Run) → f ≡ Passed → x ≡ ranOf Passed b list cells jobs before → x ≡ ran b list cells jobs before
     run-passed x e ex = ex ∙ ap (λ f. ranOf f b list cells jobs before) (sym e ∙ refusal-is)
 
-pub ruleset finishes = (finish-sized, finish-is)
+pub ruleset finishes = (finish-sized, finish-is, finish-fits)
 
 pub ruleset runs = (run-refused, run-runnable, run-passed)

@@ -6,6 +6,7 @@ use crate::play;
 use book::Outline;
 use book::Refusal;
 ghost use mathlib.Core.Path.{_≡_};
+ghost use Prim.Native.Nat.{_≤_};
 ghost use lib.ListN.{take};
 ghost use Rattle.book.specs.declared.Refusal.the-variants.{Passed};
 ghost use Rattle.tables.specs.Bytes.{savedCells, savedJobs};
@@ -92,6 +93,7 @@ fn finish(
 ) -> Ran
     requires { ⌜ Runnable (now book) t (now list) (now cells) (now jobs) (now answers) ⌝ }
     ensures { λ r. ⌜ _≡_ {A = Run} (record { refusal = r .refusal; cellCount = r .cells; jobCount = r .jobs; cells = now (cells .exit); jobs = now (jobs .exit); answered = now (answers .exit) }) (ranOf Passed (now (book .entry)) (now (list .entry)) (now (cells .entry)) (now (jobs .entry)) (now (answers .entry))) ⌝ }
+    ensures { λ r. ⌜ (r .cells ≤ 64) × (r .jobs ≤ 64) ⌝ }
 {
     let last = play_out(book, t, list, answers);
     store(t, last, cells, jobs);
@@ -106,6 +108,7 @@ fn finish(
 // and jobs, unused entries zero, answers beyond the events kept.
 pub fn run(book: &[u8], list: &[u8], cells: &mut [u8], jobs: &mut [u8], answers: &mut [u8]) -> Ran
     ensures { λ r. ⌜ _≡_ {A = Run} (record { refusal = r .refusal; cellCount = r .cells; jobCount = r .jobs; cells = now (cells .exit); jobs = now (jobs .exit); answered = now (answers .exit) }) (ran (now (book .entry)) (now (list .entry)) (now (cells .entry)) (now (jobs .entry)) (now (answers .entry))) ⌝ }
+    ensures { λ r. ⌜ (r .cells ≤ 64) × (r .jobs ≤ 64) ⌝ }
 {
     let r = book::read(book);
     let s = events::scan(list);

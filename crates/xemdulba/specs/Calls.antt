@@ -1,14 +1,18 @@
 -- The library for other languages: each answer as numbers of 32 bits.
 --     checked, found         the verdict on a book; a block's stretch
+--     Call, called           a run: what is answered, and what the lent memory holds after the call
 -- Assumes nothing.
 use Prim.Native.Nat.{ℕ}
+use mathlib.Core.List.{List}
 use Rattle.book.specs.declared.Refusal.{Refusal}
 use Rattle.book.specs.declared.Refusal.the-variants.{Passed}
 use Rattle.book.specs.declared.Refusal.the-variants as R
 use Rattle.book.specs.declared.Found.{Found}
 use Rattle.typing.specs.declared.Verdict.{Verdict}
 use Rattle.typing.specs.declared.Verdict.the-variants.{Accepted, Refused}
+use Rattle.interpreter.specs.Run.{Run}
 use Rattle.xemdulba.specs.declared.Checked.{Checked}
+use Rattle.xemdulba.specs.declared.Ran.{Ran}
 use Rattle.xemdulba.specs.declared.Stretch.{Stretch}
 
 -- 0 stands for acceptance
@@ -23,3 +27,24 @@ foundBy (R.Refused n o) a l = record { refusal = n; place = o; start = 0; length
 
 abbrev pub found : Found → Stretch
 found f = foundBy (f .refusal) (f .start) (f .length)
+
+-- 0 stands for a run that is not refused
+unfoldable pub ranBy : Refusal → ℕ → ℕ → Ran
+ranBy Passed n m = record { refusal = 0; place = 0; cells = n; jobs = m }
+ranBy (R.Refused k o) n m = record { refusal = k; place = o; cells = 0; jobs = 0 }
+
+-- the answer, and the cell table, the job table and the answer buffer after the call
+pub record Call : Type 0 where
+  pub result : Ran
+  pub cells : List ℕ
+  pub jobs : List ℕ
+  pub answered : List ℕ
+
+unfoldable pub called : Run → Call
+called x =
+    record {
+      result = ranBy (x .refusal) (x .cellCount) (x .jobCount);
+      cells = x .cells;
+      jobs = x .jobs;
+      answered = x .answered;
+    }

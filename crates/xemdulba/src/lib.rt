@@ -4,7 +4,8 @@ use typing::Verdict;
 ghost use mathlib.Core.Path.{_≡_};
 ghost use Rattle.book.specs.Stretch.{foundBlock};
 ghost use Rattle.typing.specs.Verdict.{verdict};
-ghost use Rattle.xemdulba.specs.Calls.{checked, found};
+ghost use Rattle.interpreter.specs.Run.{ran};
+ghost use Rattle.xemdulba.specs.Calls.{checked, found, Call, called};
 
 // The verdict on a book: refusal 0 where it is accepted. On a refusal the counts are 0.
 #[repr(C)]
@@ -24,6 +25,15 @@ pub struct Stretch {
     pub place: u32,
     pub start: u32,
     pub length: u32,
+}
+
+// What a run gives: refusal 0 where the events ran. On a refusal the cells and jobs in use are 0.
+#[repr(C)]
+pub struct Ran {
+    pub refusal: u32,
+    pub place: u32,
+    pub cells: u32,
+    pub jobs: u32,
 }
 
 // Checks a book. Writes nothing.
@@ -93,6 +103,43 @@ pub extern "C" fn xemdulba_block(book: &[u8], block: u32) -> Stretch
                 place: 0,
                 start: start,
                 length: length,
+            }
+        }
+    }
+}
+
+// Runs the events of a list on a book. On a refusal nothing is written.
+#[no_mangle]
+pub extern "C" fn xemdulba_run(
+    book: &[u8],
+    list: &[u8],
+    cells: &mut [u8],
+    jobs: &mut [u8],
+    answers: &mut [u8],
+) -> Ran
+    ensures { λ r. ⌜ _≡_ {A = Call} (record { result = r; cells = now (cells .exit); jobs = now (jobs .exit); answered = now (answers .exit) }) (called (ran (now (book .entry)) (now (list .entry)) (now (cells .entry)) (now (jobs .entry)) (now (answers .entry)))) ⌝ }
+{
+    let run = interpreter::run(book, list, cells, jobs, answers);
+    let refusal = run.refusal;
+    match refusal {
+        Refusal::Refused { number, place } => {
+            let code = number as u32;
+            let offset = place as u32;
+            Ran {
+                refusal: code,
+                place: offset,
+                cells: 0,
+                jobs: 0,
+            }
+        }
+        Refusal::Passed => {
+            let held = run.cells as u32;
+            let begun = run.jobs as u32;
+            Ran {
+                refusal: 0,
+                place: 0,
+                cells: held,
+                jobs: begun,
             }
         }
     }

@@ -1,4 +1,5 @@
 -- `running::run` meets its contract. Assumes nothing.
+use native.Mathlib.Omega.{arith}
 use borrow.Author.Needs.{needs}
 use Rattle.interpreter.proofs.Finishing.{runs}
 use Rattle.interpreter.proofs.running.run.Statement.{statement}
@@ -23,7 +24,7 @@ finish-requires : tie.Need-finish-requires
 finish-requires c κs = search (runs, needs)
 
 returns : tie.Need-returns
-returns c = search (runs, needs)
+returns c = (search (runs, needs), (omega arith, omega arith))
 
 same-length : tie.Need-same-length
 same-length c = search needs

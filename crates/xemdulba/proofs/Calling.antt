@@ -1,0 +1,94 @@
+-- Laws of the exported run: what the run gave stands as variables with their equation.
+--     calls         what the call answers, and what the lent memory holds
+--     call-place    the place of its refusal has 32 bits
+-- Assumes nothing.
+use mathlib.Core.Path.{_≡_, refl, sym, ap, _∙_}
+use mathlib.Core.Bool.{Bool, true, false}
+use mathlib.Core.List.{List}
+use Prim.Native.Nat.{ℕ, _<_, _≤_}
+use native.Mathlib.Omega.{arith}
+use lib.Dec.{ltb, eqb}
+use lib.ListN.{length}
+use borrow.Author.Needs.{fits-under}
+use mir.Val.{Fits}
+use mir.Syntax.{w32}
+use Rattle.book.specs.declared.Refusal.{Refusal}
+use Rattle.book.specs.declared.Refusal.the-variants.{Passed, Refused}
+use Rattle.book.specs.Control.{both}
+use Rattle.book.specs.Refusals.{unreadable}
+use Rattle.book.proofs.Bounds.{refused-short}
+use Rattle.events.specs.Bytes.{eventsIn, unplayable}
+use Rattle.events.proofs.Bounds.{unplayed-short}
+use Rattle.interpreter.specs.Run.{Run, orNext, untabled, unanswered, refusalBy, unrunnable, ranOf, ran}
+use Rattle.xemdulba.specs.Calls.{Call, ranBy, called}
+
+fits : (n : ℕ) → n < 4294967296 → Fits w32 n
+fits n h = fits-under w32 n 4294967296 h tt
+
+-- a refusal is at most at l
+abbrev Short : ℕ → Refusal → Type 0
+Short l f = (n o : ℕ) → f ≡ Refused n o → o ≤ l
+
+passed-short : (l : ℕ) → Short l Passed
+passed-short l n o e = let z : _≡_ {A = ℕ} 0 1 = cc in absurd (omega arith)
+
+start-short : (l k : ℕ) → Short l (Refused k 0)
+start-short l k n o e = let z : 0 ≡ o = cc in omega arith
+
+next-short : (l : ℕ) (f g : Refusal) → Short l f → Short l g → Short l (orNext f g)
+unfolding orNext
+next-short l Passed g p q = q
+next-short l (Refused n o) g p q = p
+
+tables-short : (l cells jobs : ℕ) → Short l (untabled cells jobs)
+unfolding untabled
+tables-short l cells jobs = go (both (eqb cells 576) (eqb jobs 3328)) refl
+  where
+    go : (b : Bool) → both (eqb cells 576) (eqb jobs 3328) ≡ b → Short l (untabled cells jobs)
+    go true e = simp e (passed-short l)
+    go false e = simp e (start-short l 10)
+
+room-short : (l room count : ℕ) → Short l (unanswered room count)
+unfolding unanswered
+room-short l room count = go (ltb room count) refl
+  where
+    go : (b : Bool) → ltb room count ≡ b → Short l (unanswered room count)
+    go true e = simp e (start-short l 11)
+    go false e = simp e (passed-short l)
+
+module _ (b list : List ℕ) where
+  read-short : Short 65536 (unreadable b)
+  read-short n o e = omega (arith, refused-short b n o e)
+
+  run-short : (cells jobs room : ℕ) → Short 65536 (unrunnable b list cells jobs room)
+  unfolding refusalBy
+  run-short cells jobs room =
+      next-short 65536 (unreadable b) _ read-short
+      (next-short 65536 (unplayable list) _ (unplayed-short list)
+      (next-short 65536 (untabled cells jobs) _ (tables-short 65536 cells jobs) (room-short 65536 room (length (eventsIn list)))))
+
+refusal-is : (f : Refusal) (b list cells jobs room : List ℕ) → ranOf f b list cells jobs room .refusal ≡ f
+unfolding ranOf
+refusal-is Passed b list cells jobs room = refl
+refusal-is (Refused n o) b list cells jobs room = refl
+
+-- what the run gave: its refusal, its counts, and the lent memory after it
+module _ (b list cells jobs room : List ℕ) (f : Refusal) (n m : ℕ) (cells′ jobs′ room′ : List ℕ)
+    (e : _≡_ {A = Run} (record { refusal = f; cellCount = n; jobCount = m; cells = cells′; jobs = jobs′; answered = room′ }) (ran b list cells jobs room)) where
+  pub call-refused : (k o : ℕ) → f ≡ Refused k o
+      → _≡_ {A = Call} (record { result = record { refusal = k; place = o; cells = 0; jobs = 0 }; cells = cells′; jobs = jobs′; answered = room′ }) (called (ran b list cells jobs room))
+  unfolding called ranBy
+  call-refused k o ef = simp (← e, ef)
+
+  pub call-place : (k o : ℕ) → f ≡ Refused k o → Fits w32 o
+  call-place k o ef =
+      let x : f ≡ unrunnable b list (length cells) (length jobs) (length room)
+      = ap (λ (x : Run). x .refusal) e ∙ refusal-is (unrunnable b list (length cells) (length jobs) (length room)) b list cells jobs room in
+      fits o (omega (arith, run-short b list (length cells) (length jobs) (length room) k o (sym x ∙ ef)))
+
+  pub call-done : f ≡ Passed
+      → _≡_ {A = Call} (record { result = record { refusal = 0; place = 0; cells = n; jobs = m }; cells = cells′; jobs = jobs′; answered = room′ }) (called (ran b list cells jobs room))
+  unfolding called ranBy
+  call-done ef = simp (← e, ef)
+
+pub ruleset calls = (call-refused, call-done)
