@@ -1,10 +1,13 @@
-//! Times the verified check beside the reference's, on the same books in the same run. Both are
-//! release builds.
+//! Times the verified check and run beside the reference's, on the same inputs in the same run. All
+//! are release builds. The run is timed beside the faster of the reference's two machines.
 
+mod runs;
 mod timing;
 mod verified;
 
 use reference::{book, full_book, mixed_book, Verdict};
+use std::hint::black_box;
+use timing::Times;
 
 const BOOK_A: &[u8] = include_bytes!("../../books/A1.book");
 
@@ -24,11 +27,25 @@ fn main() {
     for blocks in KEPT_BLOCKS {
         time_cut(blocks, cut(&full, blocks));
     }
+
+    println!();
+    runs::time(BOOK_A);
+}
+
+fn compare(book: &[u8]) -> Times {
+    timing::compare(
+        || {
+            black_box(verified::check(black_box(book)));
+        },
+        || {
+            black_box(reference::check(black_box(book)));
+        },
+    )
 }
 
 fn time_book(name: &str, book: &[u8]) {
     assert_same_verdict(book);
-    let times = timing::compare(book);
+    let times = compare(book);
     let ratio = times.verified / times.reference;
     println!(
         "{name:<12}{:>8}{:>14.3}{:>14.3}{ratio:>8.2}",
@@ -40,7 +57,7 @@ fn time_book(name: &str, book: &[u8]) {
 
 fn time_cut(blocks: usize, book: &[u8]) {
     assert_same_verdict(book);
-    let times = timing::compare(book);
+    let times = compare(book);
     let per_byte = |microseconds: f64| microseconds * 1e3 / book.len() as f64;
     println!(
         "{blocks:<12}{:>8}{:>14.3}{:>14.3}",

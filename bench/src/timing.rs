@@ -1,7 +1,5 @@
 //! The time of one call, on two sides that take turns.
 
-use crate::verified;
-use std::hint::black_box;
 use std::time::{Duration, Instant};
 
 const ROUNDS: usize = 301;
@@ -15,15 +13,11 @@ pub struct Times {
     pub reference: f64,
 }
 
-/// Times both sides on a book. Each round takes a sample of both; the side that goes first
+/// Times a call of each side. Each round takes a sample of both; the side that goes first
 /// alternates.
-pub fn compare(book: &[u8]) -> Times {
-    let mut verified = Side::new(|| {
-        black_box(verified::check(black_box(book)));
-    });
-    let mut reference = Side::new(|| {
-        black_box(reference::check(black_box(book)));
-    });
+pub fn compare(verified: impl FnMut(), reference: impl FnMut()) -> Times {
+    let mut verified = Side::new(verified);
+    let mut reference = Side::new(reference);
     for round in 0..ROUNDS {
         if round % 2 == 0 {
             verified.sample();
@@ -45,11 +39,11 @@ struct Side<F> {
     samples: Vec<f64>,
 }
 
-impl<F: Fn()> Side<F> {
+impl<F: FnMut()> Side<F> {
     /// Doubles the number of calls until a sample is long enough.
-    fn new(call: F) -> Self {
+    fn new(mut call: F) -> Self {
         let mut calls = 1;
-        while time(&call, calls) < SAMPLE {
+        while time(&mut call, calls) < SAMPLE {
             calls *= 2;
         }
         Side {
@@ -60,7 +54,7 @@ impl<F: Fn()> Side<F> {
     }
 
     fn sample(&mut self) {
-        let elapsed = time(&self.call, self.calls);
+        let elapsed = time(&mut self.call, self.calls);
         self.samples
             .push(elapsed.as_secs_f64() * 1e6 / f64::from(self.calls));
     }
@@ -71,7 +65,7 @@ impl<F: Fn()> Side<F> {
     }
 }
 
-fn time(call: impl Fn(), calls: u32) -> Duration {
+fn time(mut call: impl FnMut(), calls: u32) -> Duration {
     let start = Instant::now();
     for _ in 0..calls {
         call();

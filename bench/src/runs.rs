@@ -1,0 +1,79 @@
+//! Times of whole runs.
+
+use crate::timing::{self, Times};
+use crate::verified;
+use reference::machine::{event, fast, Runner};
+use reference::mixed_book;
+use reference::runs::{answer::outcome, Run};
+use std::hint::black_box;
+
+/// How often each of the 64 jobs of `mixed` is asked for a step.
+const ROUNDS: [usize; 4] = [8, 16, 32, 64];
+
+pub fn time(book_a: &[u8]) {
+    println!("run            events   verified us  reference us   ratio");
+    time_run("A1", &Run::new(book_a.to_vec(), [80, 0].repeat(4)));
+    time_run(
+        "A1, longest",
+        &Run::new(book_a.to_vec(), [80, 0].repeat(32_768)),
+    );
+    time_run("mixed", &mixed(64));
+
+    println!();
+    println!("mixed with a number of rounds, nanoseconds for each event, the reading of the book included");
+    println!("rounds        events      verified     reference");
+    for rounds in ROUNDS {
+        time_rounds(rounds, &mixed(rounds));
+    }
+}
+
+fn time_run(name: &str, run: &Run) {
+    let times = compare(run);
+    let ratio = times.verified / times.reference;
+    println!(
+        "{name:<12}{:>9}{:>14.3}{:>14.3}{ratio:>8.2}",
+        count(run),
+        times.verified,
+        times.reference
+    );
+}
+
+fn time_rounds(rounds: usize, run: &Run) {
+    let times = compare(run);
+    let per_event = |microseconds: f64| microseconds * 1e3 / count(run) as f64;
+    println!(
+        "{rounds:<12}{:>8}{:>14.3}{:>14.3}",
+        count(run),
+        per_event(times.verified),
+        per_event(times.reference)
+    );
+}
+
+/// Both sides must run it, and leave the same bytes.
+fn compare(run: &Run) -> Times {
+    let expected = outcome(fast::run, run);
+    assert!(expected.0.is_ok(), "{:?}", expected.0);
+    assert_eq!(outcome(verified::run, run), expected);
+    timing::compare(call(verified::run, run), call(fast::run, run))
+}
+
+/// A call on buffers of its own.
+fn call(runner: Runner, run: &Run) -> impl FnMut() + '_ {
+    let [mut cells, mut jobs, mut answers] = run.lengths.map(|length| vec![0; length]);
+    move || {
+        let (book, events) = black_box((&run.book, &run.events));
+        let outcome = runner(book, events, &mut cells, &mut jobs, &mut answers);
+        black_box(&outcome).as_ref().expect("it runs");
+    }
+}
+
+fn count(run: &Run) -> usize {
+    event::split(&run.events).map_or(0, |events| events.len())
+}
+
+/// The largest book with steps of all kinds: its blocks are started, and then the 64 jobs take turns.
+fn mixed(rounds: usize) -> Run {
+    let begin = (0..63u8).flat_map(|block| [85, block % 4, block]);
+    let turns = (0..rounds).flat_map(|_| (0..64u8).flat_map(|job| [80, job]));
+    Run::new(mixed_book(), begin.chain(turns).collect())
+}
