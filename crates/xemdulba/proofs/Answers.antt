@@ -1,6 +1,7 @@
 -- Laws of the exported calls: what a callee gave stands as a variable with its equation.
 --     checks, founds          what each call answers
 --     check-fits, found-fits  its numbers have 32 bits
+--     fits                    a number below 2 ^ 32 has 32 bits
 -- Assumes nothing.
 use mathlib.Core.Path.{_≡_}
 use mathlib.Core.List.{List}
@@ -20,7 +21,7 @@ use Rattle.typing.specs.Verdict.{verdict}
 use Rattle.typing.proofs.Bounds.{verdict-place, verdict-counts}
 use Rattle.xemdulba.specs.Calls.{checked, foundBy, found}
 
-fits : (n : ℕ) → n < 4294967296 → Fits w32 n
+pub fits : (n : ℕ) → n < 4294967296 → Fits w32 n
 fits n h = fits-under w32 n 4294967296 h tt
 
 -- v is the verdict

@@ -5,11 +5,10 @@
 use mathlib.Core.Path.{_≡_, refl, sym, ap, _∙_}
 use mathlib.Core.Bool.{Bool, true, false}
 use mathlib.Core.List.{List}
-use Prim.Native.Nat.{ℕ, _<_, _≤_}
+use Prim.Native.Nat.{ℕ, _≤_}
 use native.Mathlib.Omega.{arith}
 use lib.Dec.{ltb, eqb}
 use lib.ListN.{length}
-use borrow.Author.Needs.{fits-under}
 use mir.Val.{Fits}
 use mir.Syntax.{w32}
 use Rattle.book.specs.declared.Refusal.{Refusal}
@@ -21,9 +20,7 @@ use Rattle.events.specs.Bytes.{eventsIn, unplayable}
 use Rattle.events.proofs.Bounds.{unplayed-short}
 use Rattle.interpreter.specs.Run.{Run, orNext, untabled, unanswered, refusalBy, unrunnable, ranOf, ran}
 use Rattle.xemdulba.specs.Calls.{Call, ranBy, called}
-
-fits : (n : ℕ) → n < 4294967296 → Fits w32 n
-fits n h = fits-under w32 n 4294967296 h tt
+use Rattle.xemdulba.proofs.Answers.{fits}
 
 -- a refusal is at most at l
 abbrev Short : ℕ → Refusal → Type 0
