@@ -4,9 +4,8 @@
 -- Assumes nothing.
 use mathlib.Core.Path.{_≡_, refl, sym, ap, _∙_}
 use mathlib.Core.Bool.{Bool, true, false}
-use mathlib.Core.Option.{Option, none, some}
-use mathlib.Core.List.{List, [], _∷_}
-use Prim.Native.Nat.{ℕ, zero, suc, _<_, _≤_}
+use mathlib.Core.Option.{some}
+use Prim.Native.Nat.{ℕ, _<_}
 use native.Mathlib.Omega.{arith}
 use lib.Dec.{ltb}
 use lib.ListN.{length, getElem?, length-replicate}
@@ -17,24 +16,20 @@ use Rattle.book.specs.declared.Value.{Value}
 use Rattle.book.specs.declared.Value.the-variants.{Plain, CellName, CodeName}
 use Rattle.book.specs.declared.Step.{Step}
 use Rattle.book.specs.declared.Step.the-variants.{Put, Name, Code, Add, New, Read, Write, Relabel, Lower, Start, Exec}
-use Rattle.typing.specs.Shapes.{onSome}
-use Rattle.machine.specs.Control.{given, onPlain, onCell, onCode}
+use Rattle.machine.specs.Control.{onCell}
 use Rattle.machine.specs.declared.Event.{Event}
 use Rattle.machine.specs.declared.Event.the-variants.{StepOf, WriteBy, RelabelBy, NewBy, ExecBy, StartBy}
 use Rattle.machine.specs.Histories.{sources}
 use Rattle.machine.specs.States.{Traced, Cell, Job, State}
-use Rattle.machine.specs.Acts.{Effect, blocked, keep, store, create, launch, unless, isFree, freshJob, writing, relabelling, making, starting, executing}
-use Rattle.machine.specs.Steps.{register, through, reading, adding, lowering, turnOf}
+use Rattle.machine.specs.Acts.{Effect, blocked, keep, store, create, launch, isFree, freshJob, writing, relabelling, making, starting, executing}
+use Rattle.machine.specs.Steps.{Turn, register, through, reading, adding, lowering, turnOf}
 use Rattle.machine.specs.Events.{tableSize}
+use Rattle.machine.proofs.Cases.{given-both, some-both, plain-both, cell-both, code-both}
+use Rattle.typing.proofs.CellRules.{at-none}
 use Rattle.acts.specs.declared.Near.{Near}
 use Rattle.acts.specs.Views.{cellOf, nearby, numberIn, reachedBy}
 use Rattle.acts.specs.Outside.{aimedAt, outside}
 use Rattle.acts.proofs.Acting.{same-some, same-none}
-
-pub past-none : {A : Type 0} (l : List A) (k : ℕ) → length l ≤ k → getElem? l k ≡ none
-past-none [] k h = refl
-past-none (x ∷ xs) zero h = absurd (omega arith)
-past-none (x ∷ xs) (suc k) h = past-none xs k (omega arith)
 
 -- y is what an act looks at in the state s
 module _ (s : State Label) (y : Near) (cells-are : length (s .cells) ≡ y .cells) (jobs-are : length (s .jobs) ≡ y .jobs) where
@@ -49,7 +44,7 @@ module _ (s : State Label) (y : Near) (cells-are : length (s .cells) ≡ y .cell
       go true e = let h = ltb-true _ _ e in r h ∙ sym (same-some (cellOf (y .cell)) (y .cells) k h)
       go false e =
           let h = ltb-false _ _ e in
-          past-none (s .cells) k (omega (arith, cells-are)) ∙ sym (same-none (cellOf (y .cell)) (y .cells) k h)
+          at-none (s .cells) k (omega (arith, cells-are)) ∙ sym (same-none (cellOf (y .cell)) (y .cells) k h)
 
   cells-full : isFree tableSize (s .cells) ≡ isFree tableSize (nearby y .cells)
   cells-full = ap (λ n. ltb n 64) (cells-are ∙ sym (length-replicate (y .cells) (cellOf (y .cell))))
@@ -135,111 +130,72 @@ module _ (s : State Label) (y : Near) (cells-are : length (s .cells) ≡ y .cell
 
 -- what is new fits into the tables of the state s
 module _ (s : State Label) where
-  unfoldable pub Allowed : Effect Label → Type 0
-  Allowed blocked = Unit {0}
-  Allowed keep = Unit {0}
-  Allowed (store k c) = Unit {0}
-  Allowed (create c) = length (s .cells) < 64
-  Allowed (launch j) = length (s .jobs) < 64
+  pub data Allowed : Effect Label → Type 0 where
+    blocked-fits : Allowed blocked
+    keep-fits : Allowed keep
+    store-fits : {k : ℕ} {c : Cell Label} → Allowed (store k c)
+    create-fits : {c : Cell Label} → length (s .cells) < 64 → Allowed (create c)
+    launch-fits : {j : Job Label} → length (s .jobs) < 64 → Allowed (launch j)
 
-  if-allowed : (b : Bool) (e : Effect Label) → (b ≡ true → Allowed e) → Allowed (unless b e)
-  unfolding Allowed given
-  if-allowed true e f = f refl
-  if-allowed false e f = tt
+  pub create-room : {c : Cell Label} → Allowed (create c) → length (s .cells) < 64
+  create-room (create-fits h) = h
 
-  some-allowed : {A : Type 0} (o : Option A) (f : A → Effect Label) → ((a : A) → Allowed (f a)) → Allowed (onSome o blocked f)
-  unfolding Allowed onSome
-  some-allowed none f g = tt
-  some-allowed (some a) f g = g a
+  pub launch-room : {j : Job Label} → Allowed (launch j) → length (s .jobs) < 64
+  launch-room (launch-fits h) = h
 
-  code-allowed : (v : Value) (f : ℕ → Effect Label) → ((b : ℕ) → Allowed (f b)) → Allowed (onCode v blocked f)
-  unfolding Allowed onCode
-  code-allowed (Plain n) f g = tt
-  code-allowed (CellName k) f g = tt
-  code-allowed (CodeName b) f g = g b
+  pub record TurnAllowed (t : Turn Label) : Type 0 where
+    pub effect : Allowed (t .effect)
 
   module _ (l h : Label) where
     write-allowed : (k : ℕ) (v : Traced Label) → Allowed (writing sources s l h k v)
-    unfolding writing Allowed
-    write-allowed k v = some-allowed (getElem? (s .cells) k) _ (λ c. if-allowed (reaches l (c .label)) _ (λ e. tt))
+    unfolding writing
+    write-allowed k v = some-both Allowed blocked-fits (λ c ec. given-both Allowed blocked-fits (λ e. store-fits))
 
     relabel-allowed : (k : ℕ) (o : Label) → Allowed (relabelling sources s l h k o)
-    unfolding relabelling Allowed
-    relabel-allowed k o = some-allowed (getElem? (s .cells) k) _ (λ c. if-allowed _ _ (λ e. tt))
+    unfolding relabelling
+    relabel-allowed k o = some-both Allowed blocked-fits (λ c ec. given-both Allowed blocked-fits (λ e. store-fits))
 
     make-allowed : (i : ℕ) (v : Traced Label) → Allowed (making sources tableSize s l h i v)
-    unfolding making Allowed
-    make-allowed i v = if-allowed (isFree tableSize (s .cells)) _ (λ e. ltb-true _ _ e)
+    unfolding making
+    make-allowed i v = given-both Allowed blocked-fits (λ e. create-fits (ltb-true _ _ e))
 
     start-allowed : (b : ℕ) → Allowed (starting sources tableSize s l h b)
-    unfolding starting Allowed
-    start-allowed b = if-allowed (isFree tableSize (s .jobs)) _ (λ e. ltb-true _ _ e)
+    unfolding starting
+    start-allowed b = given-both Allowed blocked-fits (λ e. launch-fits (ltb-true _ _ e))
 
     exec-allowed : (k : ℕ) → Allowed (executing sources tableSize s l h k)
-    unfolding executing Allowed
+    unfolding executing
     exec-allowed k =
-        some-allowed (getElem? (s .cells) k) _
-        (λ c. code-allowed (c .content .value) _ (λ b. if-allowed (isFree tableSize (s .jobs)) _ (λ e. ltb-true _ _ e)))
+        some-both Allowed blocked-fits
+        (λ c ec. code-both Allowed blocked-fits (λ b eb. given-both Allowed blocked-fits (λ e. launch-fits (ltb-true _ _ e))))
 
   module _ (j : Job Label) where
-    through-allowed : (w : ℕ) (f : ℕ → Effect Label) → ((k : ℕ) → Allowed (f k)) → Allowed (through sources j w f .effect)
-    unfolding Allowed onCell
-    through-allowed w f g = go (register sources j w .value) refl
-      where
-        go : (v : Value) → register sources j w .value ≡ v → Allowed (through sources j w f .effect)
-        go (Plain n) e = rw e tt
-        go (CellName k) e = rw e (g k)
-        go (CodeName b) e = rw e tt
+    waits : TurnAllowed (record { job = j; effect = blocked })
+    waits = record { effect = blocked-fits }
 
-    add-allowed : (r : ℕ) (a b : Traced Label) → Allowed (adding sources j r a b .effect)
-    unfolding adding Allowed onPlain
-    add-allowed r a b = go (a .value) refl (b .value) refl
-      where
-        go : (u : Value) → a .value ≡ u → (v : Value) → b .value ≡ v → Allowed (adding sources j r a b .effect)
-        go (Plain m) e (Plain n) f = rw (e, f) tt
-        go (Plain m) e (CellName n) f = rw (e, f) tt
-        go (Plain m) e (CodeName n) f = rw (e, f) tt
-        go (CellName m) e v f = rw e tt
-        go (CodeName m) e v f = rw e tt
+    keeps : {i : Job Label} → TurnAllowed (record { job = i; effect = keep })
+    keeps = record { effect = keep-fits }
 
-    read-allowed : (r w : ℕ) → Allowed (reading sources s j r w .effect)
-    unfolding reading Allowed onCell onSome
-    read-allowed r w = go (register sources j w .value) refl
-      where
-        there : (k : ℕ) (o : Option (Cell Label)) → getElem? (s .cells) k ≡ o → register sources j w .value ≡ CellName k → Allowed (reading sources s j r w .effect)
-        there k none q e = rw (e, q) tt
-        there k (some c) q e = rw (e, q) tt
+    through-allowed : (w : ℕ) (f : ℕ → Effect Label) → ((k : ℕ) → Allowed (f k)) → TurnAllowed (through sources j w f)
+    through-allowed w f g = cell-both TurnAllowed waits (λ k ek. record { effect = g k })
 
-        go : (v : Value) → register sources j w .value ≡ v → Allowed (reading sources s j r w .effect)
-        go (Plain n) e = rw e tt
-        go (CellName k) e = there k (getElem? (s .cells) k) refl e
-        go (CodeName b) e = rw e tt
-
-    lower-allowed : (q : Label) → Allowed (lowering sources j q .effect)
-    unfolding lowering Allowed given
-    lower-allowed q = go (reaches (j .label) q) refl
-      where
-        go : (b : Bool) → reaches (j .label) q ≡ b → Allowed (lowering sources j q .effect)
-        go true e = rw e tt
-        go false e = rw e tt
-
-    pub turn-allowed : (p : Step) → Allowed (turnOf sources tableSize s j p .effect)
-    unfolding turnOf Allowed
-    turn-allowed (Put r n) = tt
-    turn-allowed (Name r k) = tt
-    turn-allowed (Code r b) = tt
-    turn-allowed (Add r a b) = add-allowed r _ _
-    turn-allowed (New r i a) = make-allowed (j .label) (j .history) i _
-    turn-allowed (Read r w) = read-allowed r w
+    pub turn-allowed : (p : Step) → TurnAllowed (turnOf sources tableSize s j p)
+    unfolding turnOf adding reading lowering
+    turn-allowed (Put r n) = keeps
+    turn-allowed (Name r k) = keeps
+    turn-allowed (Code r b) = keeps
+    turn-allowed (Add r a b) = plain-both TurnAllowed waits (λ x ex. plain-both TurnAllowed waits (λ y ey. keeps))
+    turn-allowed (New r i a) = record { effect = make-allowed (j .label) (j .history) i _ }
+    turn-allowed (Read r w) = cell-both TurnAllowed waits (λ k ek. some-both TurnAllowed waits (λ c ec. keeps))
     turn-allowed (Write w a) = through-allowed w _ (λ k. write-allowed (j .label) (j .history) k _)
     turn-allowed (Relabel w o) = through-allowed w _ (λ k. relabel-allowed (j .label) (j .history) k o)
-    turn-allowed (Lower q) = lower-allowed q
-    turn-allowed (Start b) = start-allowed (j .label) (j .history) b
+    turn-allowed (Lower q) = given-both TurnAllowed waits (λ e. keeps)
+    turn-allowed (Start b) = record { effect = start-allowed (j .label) (j .history) b }
     turn-allowed (Exec w) = through-allowed w _ (exec-allowed (j .label) (j .history))
 
   pub outside-allowed : (e : Event) → Allowed (outside s e)
-  unfolding outside Allowed
-  outside-allowed (StepOf i) = tt
+  unfolding outside
+  outside-allowed (StepOf i) = blocked-fits
   outside-allowed (WriteBy q k v n) = write-allowed q q k _
   outside-allowed (RelabelBy q k o) = relabel-allowed q q k o
   outside-allowed (NewBy q i v n) = make-allowed q q i _

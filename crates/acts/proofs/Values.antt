@@ -1,8 +1,8 @@
 -- Laws of registers and of a job's own changes, for the code.
---     at-any, map-set      an entry of a mapped list
---     values               one set for what the code computes on one job
+--     at-any      an entry of a mapped list
+--     values      one set for what the code computes on one job
 -- Assumes nothing.
-use mathlib.Core.Path.{_≡_, refl, sym, ap, _∙_}
+use mathlib.Core.Path.{_≡_, refl, sym, _∙_}
 use mathlib.Core.List.{List, [], _∷_, map}
 use Prim.Native.Nat.{ℕ, zero, suc, _+_, _<_, _≤_}
 use native.Mathlib.Omega.{arith}
@@ -14,6 +14,7 @@ use Rattle.book.specs.declared.Value.{Value}
 use Rattle.machine.specs.Histories.{sources}
 use Rattle.machine.specs.Acts.{acted, zeroWith, freshJob}
 use Rattle.machine.specs.Steps.{register, moved, gets}
+use Rattle.machine.proofs.Maps.{map-set}
 use Rattle.acts.specs.declared.Stored.{Stored}
 use Rattle.acts.specs.declared.Job.{Job}
 use Rattle.acts.specs.Views.{storedOf, jobOf}
@@ -22,11 +23,6 @@ pub at-any : {A B : Type 0} (f : A → B) (l : List A) (i : ℕ) (d : A) (e : B)
 at-any f [] i d e h = absurd (omega arith)
 at-any f (x ∷ xs) zero d e h = refl
 at-any f (x ∷ xs) (suc i) d e h = at-any f xs i d e (omega arith)
-
-pub map-set : {A B : Type 0} (f : A → B) (l : List A) (i : ℕ) (x : A) → map f (set l i x) ≡ set (map f l) i (f x)
-map-set f [] i x = refl
-map-set f (y ∷ ys) zero x = refl
-map-set {B = B} f (y ∷ ys) (suc i) x = ap (λ (l : List B). f y ∷ l) (map-set f ys i x)
 
 one-more : (n : ℕ) → n + 1 ≡ suc n
 one-more n = omega arith

@@ -12,7 +12,7 @@ ghost use Rattle.machine.specs.Acts.{freshJob};
 ghost use Rattle.acts.specs.Views.{jobOf};
 pub use outsiders::act_outside;
 pub use outsiders::is_such;
-pub use registers::cell_named;
+pub use registers::number_of;
 pub use registers::register_of;
 pub use turns::take_step;
 

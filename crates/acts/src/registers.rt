@@ -9,6 +9,7 @@ ghost use Prim.Native.Nat.{_<_};
 ghost use Rattle.machine.specs.Histories.{sources};
 ghost use Rattle.machine.specs.Acts.{acted, zeroWith};
 ghost use Rattle.machine.specs.Steps.{register, moved, gets};
+ghost use Rattle.machine.specs.Records.{numberOf};
 ghost use Rattle.acts.specs.Views.{storedOf, jobOf, plainNumber, cellNamed, blockNamed};
 
 // What registers start as, and what one past the eighth holds.
@@ -79,6 +80,17 @@ pub fn plain_number(v: Value) -> Named
         Value::Plain(n) => Named::Of(n),
         Value::CellName(_) => Named::No,
         Value::CodeName(_) => Named::No,
+    }
+}
+
+// The number that a value holds, whatever its kind.
+pub fn number_of(v: Value) -> u32
+    ensures { λ r. ⌜ r ≡ numberOf v ⌝ }
+{
+    match v {
+        Value::Plain(n) => n,
+        Value::CellName(k) => k,
+        Value::CodeName(b) => b,
     }
 }
 

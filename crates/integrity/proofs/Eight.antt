@@ -1,58 +1,24 @@
 -- "A job has .. eight registers": of every job of every state that a run reaches, over any histories.
 --     Eight, state-after-eight
 -- Assumes nothing.
-use mathlib.Core.Path.{_≡_, refl, _∙_}
-use mathlib.Core.Bool.{Bool, true, false}
-use mathlib.Core.Option.{Option, none, some}
+use mathlib.Core.Path.{_≡_, _∙_}
 use mathlib.Core.List.{List, [], _∷_}
 use Prim.Native.Nat.{ℕ}
 use lib.ListN.{length, length-set, length-replicate}
 use Rattle.labels.specs.declared.Label.{Label}
 use Rattle.book.specs.declared.Value.{Value}
-use Rattle.book.specs.declared.Value.the-variants.{Plain, CellName, CodeName}
 use Rattle.book.specs.declared.Step.{Step}
 use Rattle.book.specs.declared.Step.the-variants.{Put, Name, Code, Add, New, Read, Write, Relabel, Lower, Start, Exec}
 use Rattle.book.specs.Book.{Book}
-use Rattle.typing.specs.Shapes.{onSome}
 use Rattle.machine.specs.declared.Event.{Event}
 use Rattle.machine.specs.declared.Event.the-variants.{StepOf, WriteBy, RelabelBy, NewBy, ExecBy, StartBy}
-use Rattle.machine.specs.Control.{given, onPlain, onCell, onCode}
 use Rattle.machine.specs.Histories.{Histories}
 use Rattle.machine.specs.States.{Traced, Cell, Job, State}
 use Rattle.machine.specs.Acts.{Effect, blocked, keep, store, create, launch, freshJob, zeroWith, writing, relabelling, making, starting, executing}
 use Rattle.machine.specs.Steps.{Turn, gets, moved, adding, reading, lowering, through, turnOf}
 use Rattle.machine.specs.Events.{Outcome, landed, turnLanded, outcomeOf, freshState, stateAfter}
+use Rattle.machine.proofs.Cases.{given-both, some-both, plain-both, cell-both, code-both}
 use Rattle.integrity.proofs.Entries.{All, all-set, all-push, all-at}
-
--- what holds of both branches of a case holds of the case
-module _ {X : Type 0} (P : X → Type 0) {x : X} (p : P x) where
-  given-both : {b : Bool} {y : X} → (b ≡ true → P y) → P (given b y x)
-  unfolding given
-  given-both {b = true} g = g refl
-  given-both {b = false} g = p
-
-  some-both : {A : Type 0} {m : Option A} {f : A → X} → ((a : A) → m ≡ some a → P (f a)) → P (onSome m x f)
-  unfolding onSome
-  some-both {m = none} g = p
-  some-both {m = some a} g = g a refl
-
-  plain-both : {v : Value} {f : ℕ → X} → ((n : ℕ) → v ≡ Plain n → P (f n)) → P (onPlain v x f)
-  unfolding onPlain
-  plain-both {v = Plain n} g = g n refl
-  plain-both {v = CellName n} g = p
-  plain-both {v = CodeName n} g = p
-
-  cell-both : {v : Value} {f : ℕ → X} → ((n : ℕ) → v ≡ CellName n → P (f n)) → P (onCell v x f)
-  unfolding onCell
-  cell-both {v = Plain n} g = p
-  cell-both {v = CellName n} g = g n refl
-  cell-both {v = CodeName n} g = p
-
-  code-both : {v : Value} {f : ℕ → X} → ((n : ℕ) → v ≡ CodeName n → P (f n)) → P (onCode v x f)
-  unfolding onCode
-  code-both {v = Plain n} g = p
-  code-both {v = CellName n} g = p
-  code-both {v = CodeName n} g = g n refl
 
 module _ {H : Type 0} where
   pub record Eight (j : Job H) : Type 0 where

@@ -4,7 +4,7 @@
 -- Assumes nothing.
 use mathlib.Core.Path.{_≡_, refl}
 use mathlib.Core.Bool.{Bool, true, false}
-use mathlib.Core.Option.{Option, none, some}
+use mathlib.Core.Option.{Option, some}
 use Prim.Native.Nat.{ℕ, suc}
 use Rattle.labels.specs.declared.Label.{Label}
 use Rattle.book.specs.declared.Value.{Value}
@@ -21,6 +21,7 @@ use Rattle.machine.specs.States.{Job}
 use Rattle.machine.specs.Acts.{Effect, blocked}
 use Rattle.machine.specs.Control.{given, onPlain, onCell, onCode}
 use Rattle.machine.specs.Steps.{Turn}
+use Rattle.machine.proofs.Cases.{given-both, some-both, plain-both, cell-both, code-both}
 use Rattle.integrity.proofs.Invariant.{Cells, Match}
 use Rattle.integrity.proofs.Effects.{After, EffectOk, blocked-ok}
 
@@ -57,9 +58,7 @@ module _ (K : Book) where
       either-ok false f g = g refl
 
       pub some-ok : {A : Type 0} {m : Option A} {f : A → Typed} → ((a : A) → m ≡ some a → StepOk cs j (f a) o) → StepOk cs j (onSome m breaks f) o
-      unfolding onSome
-      some-ok {m = none} g = broken
-      some-ok {m = some a} g = g a refl
+      some-ok g = some-both (λ t. StepOk cs j t o) broken g
 
       pub known-cell-ok : {k : Known} {f : ℕ → Typed} → ((i : ℕ) → k ≡ N.CellOf i → StepOk cs j (f i) o) → StepOk cs j (R.onCell k f) o
       unfolding R.onCell
@@ -78,64 +77,40 @@ module _ (K : Book) where
     -- the cases of the machine: where a test fails it is blocked
     module _ {t : Typed} where
       pub given-ok : {b : Bool} {o : Turn Label} → (b ≡ true → StepOk cs j t o) → StepOk cs j t (given b o (record { job = j; effect = blocked }))
-      unfolding given
-      given-ok {b = true} f = f refl
-      given-ok {b = false} f = waits
+      given-ok f = given-both (StepOk cs j t) waits f
 
       pub entry-ok : {A : Type 0} {m : Option A} {f : A → Turn Label} → ((a : A) → m ≡ some a → StepOk cs j t (f a))
           → StepOk cs j t (onSome m (record { job = j; effect = blocked }) f)
-      unfolding onSome
-      entry-ok {m = none} g = waits
-      entry-ok {m = some a} g = g a refl
+      entry-ok g = some-both (StepOk cs j t) waits g
 
       pub plain-ok : {v : Value} {f : ℕ → Turn Label} → ((n : ℕ) → v ≡ Plain n → StepOk cs j t (f n))
           → StepOk cs j t (onPlain v (record { job = j; effect = blocked }) f)
-      unfolding onPlain
-      plain-ok {v = Plain n} g = g n refl
-      plain-ok {v = CellName n} g = waits
-      plain-ok {v = CodeName n} g = waits
+      plain-ok g = plain-both (StepOk cs j t) waits g
 
       pub cell-ok : {v : Value} {f : ℕ → Turn Label} → ((n : ℕ) → v ≡ CellName n → StepOk cs j t (f n))
           → StepOk cs j t (onCell v (record { job = j; effect = blocked }) f)
-      unfolding onCell
-      cell-ok {v = Plain n} g = waits
-      cell-ok {v = CellName n} g = g n refl
-      cell-ok {v = CodeName n} g = waits
+      cell-ok g = cell-both (StepOk cs j t) waits g
 
       -- the same of the effect alone
       pub given-effect : {i : Job Label} {b : Bool} {e : Effect Label} → (b ≡ true → StepOk cs j t (record { job = i; effect = e }))
           → StepOk cs j t (record { job = i; effect = given b e blocked })
-      unfolding given
-      given-effect {b = true} f = f refl
-      given-effect {b = false} f = waits
+      given-effect {i} f = given-both (λ e. StepOk cs j t (record { job = i; effect = e })) waits f
 
       pub entry-effect : {i : Job Label} {A : Type 0} {m : Option A} {f : A → Effect Label}
           → ((a : A) → m ≡ some a → StepOk cs j t (record { job = i; effect = f a })) → StepOk cs j t (record { job = i; effect = onSome m blocked f })
-      unfolding onSome
-      entry-effect {m = none} g = waits
-      entry-effect {m = some a} g = g a refl
+      entry-effect {i} g = some-both (λ e. StepOk cs j t (record { job = i; effect = e })) waits g
 
       pub code-effect : {i : Job Label} {v : Value} {f : ℕ → Effect Label}
           → ((n : ℕ) → v ≡ CodeName n → StepOk cs j t (record { job = i; effect = f n })) → StepOk cs j t (record { job = i; effect = onCode v blocked f })
-      unfolding onCode
-      code-effect {v = Plain n} g = waits
-      code-effect {v = CellName n} g = waits
-      code-effect {v = CodeName n} g = g n refl
+      code-effect {i} g = code-both (λ e. StepOk cs j t (record { job = i; effect = e })) waits g
 
   -- an outsider's effect
   module _ {cs : Cells} where
     pub given-act : {b : Bool} {e : Effect Label} → (b ≡ true → EffectOk K cs e) → EffectOk K cs (given b e blocked)
-    unfolding given
-    given-act {b = true} f = f refl
-    given-act {b = false} f = blocked-ok
+    given-act f = given-both (EffectOk K cs) blocked-ok f
 
     pub entry-act : {A : Type 0} {m : Option A} {f : A → Effect Label} → ((a : A) → m ≡ some a → EffectOk K cs (f a)) → EffectOk K cs (onSome m blocked f)
-    unfolding onSome
-    entry-act {m = none} g = blocked-ok
-    entry-act {m = some a} g = g a refl
+    entry-act g = some-both (EffectOk K cs) blocked-ok g
 
     pub code-act : {v : Value} {f : ℕ → Effect Label} → ((n : ℕ) → v ≡ CodeName n → EffectOk K cs (f n)) → EffectOk K cs (onCode v blocked f)
-    unfolding onCode
-    code-act {v = Plain n} g = blocked-ok
-    code-act {v = CellName n} g = blocked-ok
-    code-act {v = CodeName n} g = g n refl
+    code-act g = code-both (EffectOk K cs) blocked-ok g

@@ -27,7 +27,7 @@ use Rattle.acts.specs.declared.Cell.{Cell}
 use Rattle.acts.specs.declared.Job.{Job}
 use Rattle.acts.specs.Views.{jobOf}
 use Rattle.acts.specs.Outside.{lowCellShape, suchValue, suchWrite, suchRelabel, suchNew, suchNumber, such, outside}
-use Rattle.acts.proofs.Nearby.{past-none}
+use Rattle.typing.proofs.CellRules.{at-none}
 use Rattle.interpreter.specs.declared.Plan.{Plan}
 use Rattle.interpreter.specs.declared.Plan.the-variants.{Halt, Take, Act}
 use Rattle.interpreter.specs.declared.Deed.{Deed}
@@ -95,7 +95,7 @@ module _ (b : List ℕ) (shape : ℕ → Shape) (shapes-are : (i : ℕ) → shap
     unfolding planned planOf Performs outcomeOf onSome
     step-out i k d dc c z r ec ez =
         let p : planned (StepOf i) (getD jobs k d) ≡ Halt noSuch = simp (borrow.Author.Tests.le-ltb _ _ r) in
-        at-once b s m k _ noSuch (getD jobs k d) z _ (rw p at ez) (simp (past-none (s .jobs) i (omega (arith, jobs-in-use b s cells n jobs m h, r))))
+        at-once b s m k _ noSuch (getD jobs k d) z _ (rw p at ez) (simp (at-none (s .jobs) i (omega (arith, jobs-in-use b s cells n jobs m h, r))))
 
     step : (i : ℕ) (d : Job) (dc c : Cell) (z : Deed) → Told (StepOf i) (clamped i) d dc c z
     step i d dc c z = go (ltb i m) refl

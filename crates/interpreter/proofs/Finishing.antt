@@ -1,40 +1,45 @@
 -- Laws of the run, for the code: what a callee gave stands as a variable with its equation.
 --     refusals      the stages' refusals
---     finishes      a run that is not refused
+--     finish-is     the memory after a run that is not refused
+--     lends         the parts of the outline that the loop is lent
 --     runs          the whole
 -- Assumes nothing.
 use mathlib.Core.Path.{_≡_, refl, sym, ap, _∙_}
 use mathlib.Core.Bool.{Bool, true, false}
-use mathlib.Core.List.{List, _++_, map}
+use mathlib.Core.List.{List, [], _∷_, _++_, map}
 use Prim.Native.Nat.{ℕ, _-_, _<_, _≤_}
 use native.Mathlib.Omega.{arith}
 use lib.Dec.{ltb, eqb}
-use lib.ListN.{length, take, drop, length-map}
+use lib.ListN.{length, take, drop, getD, length-map}
 use borrow.Author.Tests.{lt-ltb, le-ltb, ltb-false, eq-eqb, ne-eqb, eqb-true}
 use Rattle.labels.specs.declared.Label.{Label}
+use Rattle.labels.specs.Labels.{label}
 use Rattle.book.specs.declared.Outline.{Outline}
 use Rattle.book.specs.declared.Reading.{Reading}
 use Rattle.book.specs.declared.Refusal.{Refusal}
 use Rattle.book.specs.declared.Refusal.the-variants.{Passed, Refused}
 use Rattle.book.specs.Control.{both}
-use Rattle.book.specs.Book.{parse}
-use Rattle.book.specs.Refusals.{unreadable}
-use Rattle.book.specs.Outline.{outlineOf, readingOf, reading}
-use Rattle.typing.proofs.Tables.{shape-is, starts-are, drawn-start}
+use Rattle.book.specs.Book.{parse, blocksOf, blockAt}
+use Rattle.book.specs.Refusals.{noShape, unreadable}
+use Rattle.book.specs.Outline.{outlineOf, boundAt, shapeIn, readingOf, reading}
+use Rattle.book.proofs.Blocks.{get-pad}
+use Rattle.typing.proofs.Tables.{shape-is, cells-are, starts-are, drawn-cell, drawn-start}
 use Rattle.machine.specs.Histories.{lists, sources, source}
 use Rattle.machine.specs.States.{State}
-use Rattle.machine.specs.Events.{tableSize, launchLabel, freshState, stateAfter, answers}
+use Rattle.machine.specs.Events.{tableSize, noBlock, launchLabel, freshState, stateAfter, answers}
 use Rattle.machine.specs.Images.{cellImage, jobImage, stateImage}
 use Rattle.machine.specs.Records.{cellRecord, jobRecord}
 use Rattle.machine.proofs.Sources.{source-law}
 use Rattle.events.specs.declared.Scanned.{Scanned}
 use Rattle.events.specs.Bytes.{eventsIn, unplayable, scanOf, scanned}
+use Rattle.acts.specs.declared.Cell.{Cell}
+use Rattle.acts.specs.declared.Job.{Job}
 use Rattle.acts.specs.Views.{cellOf, jobOf}
 use Rattle.tables.specs.Bytes.{cellTable, jobTable, savedCells, savedJobs}
-use Rattle.interpreter.specs.declared.Tables.{Tables}
-use Rattle.interpreter.specs.Loop.{Holds, opening, Ready, Playable, Runnable, Sized, Played}
+use Rattle.interpreter.specs.Loop.{opening, Ready, Runnable}
 use Rattle.interpreter.specs.Run.{Run, orNext, untabled, unanswered, refusalBy, finalState, ranOf, ran}
 use Rattle.interpreter.proofs.Arrays.{front-long}
+use Rattle.interpreter.proofs.Going.{Played}
 use Rattle.interpreter.proofs.Records.{saved-cells, saved-jobs}
 
 module _ (read played : Refusal) (count cells jobs room : ℕ) where
@@ -88,81 +93,75 @@ passes Passed Passed count cells jobs room e = go (eqb cells 576) refl (eqb jobs
     go true p false q c r = let x : Passed ≡ Refused 10 0 = simp (p, q) at e in let z : _≡_ {A = ℕ} 0 1 = cc in absurd (omega arith)
     go false p b q c r = let x : Passed ≡ Refused 10 0 = simp p at e in let z : _≡_ {A = ℕ} 0 1 = cc in absurd (omega arith)
 
--- the events of a list
-module _ (b : List ℕ) (t : Outline) (list before : List ℕ) (y : Playable b t list before) where
-  pub out-starts : t .counts .blocks ≤ length (t .start)
-  out-starts = drawn-start b (y .readable) t (y .outlined)
+-- the memory after a run that is not refused; the table of shapes is the book's
+module _ (b shapes list cells jobs before : List ℕ) (shapes-are : (i : ℕ) → shapeIn shapes i ≡ getD (parse b .shapes) i noShape) (held : List Cell) (n : ℕ)
+    (begun : List Job) (m : ℕ) (after : List ℕ) (w : Played b list before after held n begun m) where
+  images : stateImage source (finalState b list) ≡ stateAfter sources tableSize (parse b) (opening b) (eventsIn list)
+  images = source-law tableSize (parse b) .after-image (launchLabel (parse b)) (eventsIn list)
 
-  pub out-open : (unreadable b ≡ Passed) × (t ≡ outlineOf b)
-  out-open = (y .readable, y .outlined)
+  held-are : map cellOf (take n held) ≡ map (cellImage source) (finalState b list .cells)
+  held-are = w .holds .cells-are ∙ ap (λ (s : State Label). s .cells) (sym images)
+
+  begun-are : map jobOf (take m begun) ≡ map (jobImage source) (finalState b list .jobs)
+  begun-are = w .holds .jobs-are ∙ ap (λ (s : State Label). s .jobs) (sym images)
+
+  pub finish-is : (cells′ jobs′ : List ℕ) → cells′ ≡ savedCells shapes (take n held) → jobs′ ≡ savedJobs (take m begun)
+      → _≡_ {A = Run} (record { refusal = Passed; cellCount = n; jobCount = m; cells = cells′; jobs = jobs′; answered = after })
+      (ranOf Passed b list cells jobs before)
+  unfolding ranOf
+  finish-is cells′ jobs′ ec ej =
+      let k : n ≡ length (finalState b list .cells)
+      = sym (front-long cellOf held n (omega (arith, w .holds .cells-long, w .holds .cells-fit))) ∙ ap length held-are
+      ∙ length-map (finalState b list .cells) (cellImage source) in
+      let m′ : m ≡ length (finalState b list .jobs)
+      = sym (front-long jobOf begun m (omega (arith, w .holds .jobs-long, w .holds .jobs-fit))) ∙ ap length begun-are
+      ∙ length-map (finalState b list .jobs) (jobImage source) in
+      let u : cells′ ≡ cellTable (map (cellRecord (parse b)) (finalState b list .cells))
+      = ec ∙ saved-cells (parse b) shapes (take n held) (finalState b list .cells) shapes-are held-are in
+      let v : jobs′ ≡ jobTable (map jobRecord (finalState b list .jobs))
+      = ej ∙ saved-jobs (take m begun) (finalState b list .jobs) begun-are in
+      let a : after ≡ answers lists tableSize (parse b) (freshState lists (parse b) (launchLabel (parse b))) (eventsIn list) ++ drop (length (eventsIn list)) before
+      = w .answered
+      ∙ ap (λ (l : List ℕ). l ++ drop (length (eventsIn list)) before) (sym (source-law tableSize (parse b) .answers-image (launchLabel (parse b)) (eventsIn list))) in
+      rw (← k, ← m′, ← u, ← v, ← a) refl
+
+-- the parts of the outline that the loop is lent
+module _ (b : List ℕ) (t : Outline) (list cells jobs before : List ℕ) (y : Runnable b t list cells jobs before) where
+  pub lent-cells : t .counts .cells ≤ length (t .cell)
+  lent-cells = drawn-cell b (y .readable) t (y .outlined)
+
+  pub lent-starts : t .counts .blocks ≤ length (t .start)
+  lent-starts = drawn-start b (y .readable) t (y .outlined)
 
   c-is : t .c ≡ parse b .c
   unfolding outlineOf parse
   c-is = ap (λ (t : Outline). t .c) (y .outlined)
 
-  pub out-ready : (first : Tables) → Holds b (opening b) (first .cells) (first .held) (first .jobs) (first .begun)
-      → Ready b (t .c) (t .shape) (take (t .counts .blocks - 0) (drop 0 (t .start))) first list before
-  out-ready first h =
+  bound-first : getD (t .bound) 0 0 ≡ launchLabel (parse b) .0
+  unfolding outlineOf parse blockAt
+  bound-first =
+      ap (λ (t : Outline). getD (t .bound) 0 0) (y .outlined)
+      ∙ get-pad 0 (map (boundAt b) (blocksOf b)) (64 - length (map (boundAt b) (blocksOf b))) 0 ∙ go (blocksOf b)
+    where
+      go : (os : List ℕ) → getD (map (boundAt b) os) 0 0 ≡ getD (map (blockAt b) os) 0 noBlock .bound .0
+      go [] = refl
+      go (o ∷ os) = refl
+
+  pub lent-ready : Ready b (t .c) (t .shape) (take (t .counts .cells - 0) (drop 0 (t .cell))) (take (t .counts .blocks - 0) (drop 0 (t .start)))
+      (label (getD (t .bound) 0 0)) list cells jobs before
+  lent-ready =
       record {
         readable = y .readable;
         c-is = c-is;
         shapes-are = shape-is b (y .readable) t (y .outlined);
+        offsets-are = cells-are b (y .readable) t (y .outlined);
         starts-are = starts-are b (y .readable) t (y .outlined);
-        opened = h;
+        bound-is = ap label bound-first;
         playable = y .playable;
         room = y .room;
+        cells-sized = y .cells-sized;
+        jobs-sized = y .jobs-sized;
       }
-
-pub ruleset outs = (out-starts, out-open, out-ready)
-
-module _ (last : Tables) (cells jobs : List ℕ) (y : Sized last cells jobs) where
-  pub store-cells : (last .held ≤ 64) × (length cells ≡ 576)
-  store-cells = (y .cells-fit, y .cells-sized)
-
-  pub store-jobs : (last .begun ≤ 64) × (length jobs ≡ 3328)
-  store-jobs = (y .jobs-fit, y .jobs-sized)
-
-pub ruleset stores = (store-cells, store-jobs)
-
--- a run that is not refused
-module _ (b : List ℕ) (t : Outline) (list cells jobs before : List ℕ) (y : Runnable b t list cells jobs before) where
-  module _ (last : Tables) (after : List ℕ) (w : Played b list before after last) where
-    pub finish-sized : Sized last cells jobs
-    finish-sized =
-        record { cells-fit = w .holds .cells-fit; jobs-fit = w .holds .jobs-fit; cells-sized = y .cells-sized; jobs-sized = y .jobs-sized }
-
-    pub finish-fits : (last .held ≤ 64) × (last .begun ≤ 64)
-    finish-fits = (w .holds .cells-fit, w .holds .jobs-fit)
-
-    images : stateImage source (finalState b list) ≡ stateAfter sources tableSize (parse b) (opening b) (eventsIn list)
-    images = source-law tableSize (parse b) .after-image (launchLabel (parse b)) (eventsIn list)
-
-    held-are : map cellOf (take (last .held) (last .cells)) ≡ map (cellImage source) (finalState b list .cells)
-    held-are = w .holds .cells-are ∙ ap (λ (s : State Label). s .cells) (sym images)
-
-    begun-are : map jobOf (take (last .begun) (last .jobs)) ≡ map (jobImage source) (finalState b list .jobs)
-    begun-are = w .holds .jobs-are ∙ ap (λ (s : State Label). s .jobs) (sym images)
-
-    pub finish-is : (cells′ jobs′ : List ℕ) → cells′ ≡ savedCells (t .shape) (take (last .held) (last .cells)) → jobs′ ≡ savedJobs (take (last .begun) (last .jobs))
-        → _≡_ {A = Run}
-        (record { refusal = Passed; cellCount = last .held; jobCount = last .begun; cells = cells′; jobs = jobs′; answered = after })
-        (ranOf Passed b list cells jobs before)
-    unfolding ranOf
-    finish-is cells′ jobs′ ec ej =
-        let k : last .held ≡ length (finalState b list .cells)
-        = sym (front-long cellOf (last .cells) (last .held) (omega (arith, w .holds .cells-long, w .holds .cells-fit))) ∙ ap length held-are
-        ∙ length-map (finalState b list .cells) (cellImage source) in
-        let m : last .begun ≡ length (finalState b list .jobs)
-        = sym (front-long jobOf (last .jobs) (last .begun) (omega (arith, w .holds .jobs-long, w .holds .jobs-fit))) ∙ ap length begun-are
-        ∙ length-map (finalState b list .jobs) (jobImage source) in
-        let u : cells′ ≡ cellTable (map (cellRecord (parse b)) (finalState b list .cells))
-        = ec ∙ saved-cells (parse b) (t .shape) (take (last .held) (last .cells)) (finalState b list .cells) (shape-is b (y .plays .readable) t (y .plays .outlined)) held-are in
-        let v : jobs′ ≡ jobTable (map jobRecord (finalState b list .jobs))
-        = ej ∙ saved-jobs (take (last .begun) (last .jobs)) (finalState b list .jobs) begun-are in
-        let a : after ≡ answers lists tableSize (parse b) (freshState lists (parse b) (launchLabel (parse b))) (eventsIn list) ++ drop (length (eventsIn list)) before
-        = w .answered
-        ∙ ap (λ (l : List ℕ). l ++ drop (length (eventsIn list)) before) (sym (source-law tableSize (parse b) .answers-image (launchLabel (parse b)) (eventsIn list))) in
-        rw (← k, ← m, ← u, ← v, ← a) refl
 
 -- r is what reading gave, s what the scan gave
 module _ (b list cells jobs before : List ℕ) (r : Reading) (er : r ≡ reading b) (s : Scanned) (es : s ≡ scanned list) where
@@ -208,13 +207,10 @@ module _ (b list cells jobs before : List ℕ) (r : Reading) (er : r ≡ reading
     run-runnable e =
         let p = passes (unreadable b) (unplayable list) (length (eventsIn list)) (length cells) (length jobs) (length before) (sym e ∙ refusal-is) in
         record {
-          plays =
-              record {
-                readable = p .read-is;
-                outlined = ap (λ (r : Reading). r .outline) er ∙ simp (p .read-is);
-                playable = p .played-is;
-                room = p .fits;
-              };
+          readable = p .read-is;
+          outlined = ap (λ (r : Reading). r .outline) er ∙ simp (p .read-is);
+          playable = p .played-is;
+          room = p .fits;
           cells-sized = p .cells-are;
           jobs-sized = p .jobs-are;
         }
@@ -222,6 +218,6 @@ module _ (b list cells jobs before : List ℕ) (r : Reading) (er : r ≡ reading
     pub run-passed : (x : Run) → f ≡ Passed → x ≡ ranOf Passed b list cells jobs before → x ≡ ran b list cells jobs before
     run-passed x e ex = ex ∙ ap (λ f. ranOf f b list cells jobs before) (sym e ∙ refusal-is)
 
-pub ruleset finishes = (finish-sized, finish-is, finish-fits)
+pub ruleset lends = (lent-cells, lent-starts, lent-ready)
 
 pub ruleset runs = (run-refused, run-runnable, run-passed)

@@ -1,9 +1,10 @@
 -- The loop over the events, turn by turn.
 --     Going                                what holds at each turn
+--     Played                               what holds behind the last
 --     going-start, going-turn, going-end   at the start, through a turn, at the end
 -- Assumes nothing.
 use mathlib.Core.Path.{_≡_, refl, sym, ap, _∙_}
-use mathlib.Core.List.{List, [], _∷_, _++_}
+use mathlib.Core.List.{List, [], _∷_, _++_, append-assoc, append-nil}
 use Prim.Native.Nat.{ℕ, suc, _+_, _<_, _≤_}
 use native.Mathlib.Omega.{arith}
 use lib.Seq.{drop-cons, set-append-seam}
@@ -19,21 +20,12 @@ use Rattle.events.proofs.Walks.{Whole, walk, events-end}
 use Rattle.acts.specs.declared.Cell.{Cell}
 use Rattle.acts.specs.declared.Job.{Job}
 use Rattle.interpreter.specs.declared.Deed.{Deed}
-use Rattle.interpreter.specs.declared.Tables.{Tables}
-use Rattle.interpreter.specs.Loop.{Holds, opening, Played}
+use Rattle.interpreter.specs.Loop.{Holds, opening}
 use Rattle.interpreter.proofs.Lands.{stateOf, Lands}
-
-one-further : (xs : List ℕ) (a : ℕ) (ys : List ℕ) → (xs ++ a ∷ []) ++ ys ≡ xs ++ a ∷ ys
-one-further [] a ys = refl
-one-further (x ∷ xs) a ys = ap (λ (l : List ℕ). x ∷ l) (one-further xs a ys)
 
 one-longer : (xs : List ℕ) (a : ℕ) → length (xs ++ a ∷ []) ≡ length xs + 1
 one-longer [] a = refl
 one-longer (x ∷ xs) a = let e = one-longer xs a in omega arith
-
-nothing-more : (xs : List ℕ) → xs ++ [] ≡ xs
-nothing-more [] = refl
-nothing-more (x ∷ xs) = ap (λ (l : List ℕ). x ∷ l) (nothing-more xs)
 
 -- an answer is written behind those that stand
 answer-put : (said before : List ℕ) (at a : ℕ) → length said ≡ at → at < length before
@@ -43,7 +35,7 @@ answer-put said before at a e h =
     let v : drop at before ≡ getD before at 0 ∷ drop (suc at) before = drop-cons before at 0 h in
     rw (v, u, ← e)
     (set-append-seam said (getD before (length said) 0) (drop (suc (length said)) before) a
-    ∙ sym (one-further said a (drop (suc (length said)) before)))
+    ∙ sym (append-assoc said (a ∷ []) (drop (suc (length said)) before)))
 
 -- of the book b and the list, with the answers as they were before
 pub record Going (b list before answers-now : List ℕ) (cells : List Cell) (n : ℕ) (jobs : List Job) (m at o : ℕ) : Type 0 where
@@ -57,10 +49,14 @@ pub record Going (b list before answers-now : List ℕ) (cells : List Cell) (n :
   pub whole : Whole list o
   pub left : at + length (eventsFrom list o) ≡ length (eventsIn list)
 
-pub going-start : (b list before : List ℕ) (r : Tables) → Whole list 0
-    → Holds b (opening b) (r .cells) (r .held) (r .jobs) (r .begun)
-    → Going b list before before (r .cells) (r .held) (r .jobs) (r .begun) 0 0
-going-start b list before r w h =
+-- the answers are the machine's, then what stood there; the arrays hold the machine's state
+pub record Played (b list before after : List ℕ) (cells : List Cell) (n : ℕ) (jobs : List Job) (m : ℕ) : Type 0 where
+  pub answered : after ≡ answers sources tableSize (parse b) (opening b) (eventsIn list) ++ drop (length (eventsIn list)) before
+  pub holds : Holds b (stateAfter sources tableSize (parse b) (opening b) (eventsIn list)) cells n jobs m
+
+pub going-start : (b list before : List ℕ) (cells : List Cell) (n : ℕ) (jobs : List Job) (m : ℕ) → Whole list 0 → Holds b (opening b) cells n jobs m
+    → Going b list before before cells n jobs m 0 0
+going-start b list before cells n jobs m w h =
     record { state = opening b; holds = h; rest = refl; said = []; said-long = refl; all = refl; kept = refl; whole = w; left = omega arith }
 
 module _ (b list before answers-now : List ℕ) (cells : List Cell) (n : ℕ) (jobs : List Job) (m at o : ℕ)
@@ -91,7 +87,7 @@ module _ (b list before answers-now : List ℕ) (cells : List Cell) (n : ℕ) (j
             said = g .said ++ z .answer ∷ [];
             said-long = one-longer (g .said) (z .answer) ∙ ap (λ x. x + 1) (g .said-long);
             all =
-                one-further (g .said) (z .answer) (answers sources tableSize (parse b) (stateOf (g .state) i k (z .job) (z .effect)) (eventsFrom list p))
+                append-assoc (g .said) (z .answer ∷ []) (answers sources tableSize (parse b) (stateOf (g .state) i k (z .job) (z .effect)) (eventsFrom list p))
                 ∙ rw (← lands .state, ← lands .answer) refl
                 ∙ sym (ap (λ (es : List Event). g .said ++ answers sources tableSize (parse b) (g .state) es) here) ∙ g .all;
             kept = rw (g .kept) (answer-put (g .said) before at (z .answer) (g .said-long) answer-fits);
@@ -99,14 +95,13 @@ module _ (b list before answers-now : List ℕ) (cells : List Cell) (n : ℕ) (j
             left = let q = ap length here in omega (arith, g .left);
           }
 
-  pub going-end : (r : Tables) → length list ≤ o → r .cells ≡ cells → r .held ≡ n → r .jobs ≡ jobs → r .begun ≡ m
-      → Played b list before answers-now r
+  pub going-end : length list ≤ o → Played b list before answers-now cells n jobs m
   unfolding stateAfter answers
-  going-end r h ec en ej em =
+  going-end h =
       let q : eventsFrom list o ≡ [] = events-end list o h in
       let all-at : at ≡ length (eventsIn list) = let l = ap length q in omega (arith, g .left) in
       let all-said : g .said ≡ answers sources tableSize (parse b) (opening b) (eventsIn list)
-      = sym (nothing-more (g .said)) ∙ sym (ap (λ (es : List Event). g .said ++ answers sources tableSize (parse b) (g .state) es) q) ∙ g .all in
+      = sym (append-nil (g .said)) ∙ sym (ap (λ (es : List Event). g .said ++ answers sources tableSize (parse b) (g .state) es) q) ∙ g .all in
       let end : g .state ≡ stateAfter sources tableSize (parse b) (opening b) (eventsIn list)
       = sym (ap (stateAfter sources tableSize (parse b) (g .state)) q) ∙ g .rest in
-      record { answered = g .kept ∙ rw (all-said, all-at) refl; holds = rw (ec, en, ej, em, ← end) (g .holds) }
+      record { answered = g .kept ∙ rw (all-said, all-at) refl; holds = rw (← end) (g .holds) }

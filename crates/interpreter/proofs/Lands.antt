@@ -5,7 +5,7 @@
 -- Assumes nothing.
 use mathlib.Core.Path.{_≡_, refl, sym, ap, _∙_}
 use mathlib.Core.Bool.{Bool, true, false}
-use mathlib.Core.Option.{Option, none, some}
+use mathlib.Core.Option.{none, some}
 use mathlib.Core.List.{List, [], _∷_, _++_, map}
 use Prim.Native.Nat.{ℕ, suc, _+_, _<_}
 use native.Mathlib.Omega.{arith}
@@ -13,9 +13,6 @@ use lib.Dec.{ltb}
 use lib.ListN.{length, drop, getD, set, getElem?}
 use borrow.Author.Tests.{lt-ltb, ltb-true, ltb-false}
 use Rattle.labels.specs.declared.Label.{Label}
-use Rattle.labels.specs.Labels.{reaches}
-use Rattle.book.specs.declared.Value.{Value}
-use Rattle.book.specs.declared.Value.the-variants.{Plain, CellName, CodeName}
 use Rattle.book.specs.declared.Step.{Step}
 use Rattle.book.specs.declared.Step.the-variants.{Put, Name, Code, Add, New, Read, Write, Relabel, Lower, Start, Exec}
 use Rattle.book.specs.declared.StepAt.the-variants.{NoStep, StepThere}
@@ -27,15 +24,15 @@ use Rattle.book.proofs.Records.{walk}
 use Rattle.book.proofs.Steps.{steps-end, steps-none, steps-more}
 use Rattle.typing.specs.Shapes.{onSome}
 use Rattle.typing.proofs.Walks.{there, no, Stood}
-use Rattle.machine.specs.Control.{given, onPlain, onCell}
 use Rattle.machine.specs.declared.Event.{Event}
 use Rattle.machine.specs.declared.Event.the-variants.{StepOf}
 use Rattle.machine.specs.Histories.{sources}
-use Rattle.machine.specs.States.{Traced, State}
+use Rattle.machine.specs.States.{State}
 use Rattle.machine.specs.States as States
 use Rattle.machine.specs.Acts.{blocked, freshJob}
 use Rattle.machine.specs.Acts as Acts
-use Rattle.machine.specs.Steps.{Turn, register, through, reading, adding, lowering, turnOf}
+use Rattle.machine.specs.Steps.{Turn, through, reading, adding, lowering, turnOf}
+use Rattle.machine.proofs.Cases.{given-both, some-both, plain-both, cell-both}
 use Rattle.machine.specs.Events.{tableSize, blockOf, Outcome, unchanged, landed, turnLanded, outcomeOf}
 use Rattle.acts.specs.declared.Cell.{Cell}
 use Rattle.acts.specs.declared.Job.{Job}
@@ -43,7 +40,7 @@ use Rattle.acts.specs.declared.Effect.{Effect}
 use Rattle.acts.specs.declared.Effect.the-variants.{Blocked, Keep, Store, Create, Launch}
 use Rattle.acts.specs.Views.{cellOf, jobOf, effectOf, turnTaken, reachedBy}
 use Rattle.acts.specs.Outside.{such, aimedAt, outside}
-use Rattle.acts.proofs.Nearby.{Reached, turn-nearby, outside-nearby, Allowed, turn-allowed, outside-allowed}
+use Rattle.acts.proofs.Nearby.{Reached, turn-nearby, outside-nearby, Allowed, blocked-fits, turn-allowed, outside-allowed}
 use Rattle.interpreter.specs.declared.Deed.{Deed}
 use Rattle.interpreter.specs.Plans.{clamped, answerOf, Stepped, Acted, Halted}
 use Rattle.interpreter.specs.Loop.{Placed, Holds}
@@ -71,63 +68,33 @@ pub record Moved (j t : States.Job Label) : Type 0 where
   pub block : t .block ≡ j .block
   pub position : t .position ≡ suc (j .position)
 
-abbrev Moves : States.Job Label → Turn Label → Type 0
-Moves j t = (t .effect ≡ blocked → ⊥) → Moved j (t .job)
+record Moves (j : States.Job Label) (t : Turn Label) : Type 0 where
+  moves : (t .effect ≡ blocked → ⊥) → Moved j (t .job)
 
 module _ (j : States.Job Label) where
+  stays : Moves j (record { job = j; effect = blocked })
+  stays = record { moves = λ h. absurd (h refl) }
+
+  goes : {t : Turn Label} → Moved j (t .job) → Moves j t
+  goes m = record { moves = λ h. m }
+
   through-moves : (w : ℕ) (f : ℕ → Acts.Effect Label) → Moves j (through sources j w f)
-  unfolding onCell
-  through-moves w f = go (register sources j w .value) refl
-    where
-      go : (v : Value) → register sources j w .value ≡ v → Moves j (through sources j w f)
-      go (Plain n) e = rw e (λ h. absurd (h refl))
-      go (CellName k) e = rw e (λ h. record { block = refl; position = refl })
-      go (CodeName b) e = rw e (λ h. absurd (h refl))
-
-  add-moves : (r : ℕ) (a b : Traced Label) → Moves j (adding sources j r a b)
-  unfolding adding onPlain
-  add-moves r a b = go (a .value) refl (b .value) refl
-    where
-      go : (u : Value) → a .value ≡ u → (v : Value) → b .value ≡ v → Moves j (adding sources j r a b)
-      go (Plain m) e (Plain n) f = rw (e, f) (λ h. record { block = refl; position = refl })
-      go (Plain m) e (CellName n) f = rw (e, f) (λ h. absurd (h refl))
-      go (Plain m) e (CodeName n) f = rw (e, f) (λ h. absurd (h refl))
-      go (CellName m) e v f = rw e (λ h. absurd (h refl))
-      go (CodeName m) e v f = rw e (λ h. absurd (h refl))
-
-  read-moves : (s : State Label) (r w : ℕ) → Moves j (reading sources s j r w)
-  unfolding reading onCell onSome
-  read-moves s r w = go (register sources j w .value) refl
-    where
-      named : (k : ℕ) (o : Option (States.Cell Label)) → getElem? (s .cells) k ≡ o → register sources j w .value ≡ CellName k → Moves j (reading sources s j r w)
-      named k none q e = rw (e, q) (λ h. absurd (h refl))
-      named k (some c) q e = rw (e, q) (λ h. record { block = refl; position = refl })
-
-      go : (v : Value) → register sources j w .value ≡ v → Moves j (reading sources s j r w)
-      go (Plain n) e = rw e (λ h. absurd (h refl))
-      go (CellName k) e = named k (getElem? (s .cells) k) refl e
-      go (CodeName b) e = rw e (λ h. absurd (h refl))
-
-  lower-moves : (q : Label) → Moves j (lowering sources j q)
-  unfolding lowering given
-  lower-moves q = go (reaches (j .label) q) refl
-    where
-      go : (b : Bool) → reaches (j .label) q ≡ b → Moves j (lowering sources j q)
-      go true e = rw e (λ h. record { block = refl; position = refl })
-      go false e = rw e (λ h. absurd (h refl))
+  through-moves w f = cell-both (Moves j) stays (λ k ek. goes (record { block = refl; position = refl }))
 
   turn-moves : (s : State Label) (p : Step) → Moves j (turnOf sources tableSize s j p)
-  unfolding turnOf
-  turn-moves s (Put r n) = λ h. record { block = refl; position = refl }
-  turn-moves s (Name r k) = λ h. record { block = refl; position = refl }
-  turn-moves s (Code r b) = λ h. record { block = refl; position = refl }
-  turn-moves s (Add r a b) = add-moves r _ _
-  turn-moves s (New r i a) = λ h. record { block = refl; position = refl }
-  turn-moves s (Read r w) = read-moves s r w
+  unfolding turnOf adding reading lowering
+  turn-moves s (Put r n) = goes (record { block = refl; position = refl })
+  turn-moves s (Name r k) = goes (record { block = refl; position = refl })
+  turn-moves s (Code r b) = goes (record { block = refl; position = refl })
+  turn-moves s (Add r a b) =
+      plain-both (Moves j) stays (λ x ex. plain-both (Moves j) stays (λ y ey. goes (record { block = refl; position = refl })))
+  turn-moves s (New r i a) = goes (record { block = refl; position = refl })
+  turn-moves s (Read r w) =
+      cell-both (Moves j) stays (λ k ek. some-both (Moves j) stays (λ c ec. goes (record { block = refl; position = refl })))
   turn-moves s (Write w a) = through-moves w _
   turn-moves s (Relabel w o) = through-moves w _
-  turn-moves s (Lower q) = lower-moves q
-  turn-moves s (Start b) = λ h. record { block = refl; position = refl }
+  turn-moves s (Lower q) = given-both (Moves j) stays (λ e. goes (record { block = refl; position = refl }))
+  turn-moves s (Start b) = goes (record { block = refl; position = refl })
   turn-moves s (Exec w) = through-moves w _
 
 -- a step is found inside
@@ -201,12 +168,12 @@ blocked-only k (Launch b l h) e = let z : _≡_ {A = ℕ} 0 1 = cc in absurd (om
 -- an answer at once
 pub at-once : (b : List ℕ) (s : State Label) (m i k a : ℕ) (j : Job) (z : Deed) (o : Outcome Label) → Halted a j z → o ≡ unchanged a s
     → Lands b s m i k o z
-unfolding stateOf effectOf Allowed
+unfolding stateOf effectOf
 at-once b s m i k a j z o h e =
     record {
       answer = ap (λ (o : Outcome Label). o .answer) e ∙ sym (h .answer);
       state = ap (λ (o : Outcome Label). o .state) e ∙ rw (h .effect) refl;
-      room = rw (h .effect) tt;
+      room = rw (h .effect) blocked-fits;
       stands = λ n. absurd (n (h .effect));
       placed = λ n. absurd (n (h .effect));
     }
@@ -255,7 +222,7 @@ module _ (b : List ℕ) (s : State Label) (cells : List Cell) (n : ℕ) (jobs : 
         let u : jobOf (z .job) ≡ turnOf sources tableSize s (jobOf (getD jobs i d)) p .job = ap (λ (t : Turn Label). t .job) (sym turn-is) in
         let v : turnOf sources tableSize s (jobOf (getD jobs i d)) p .effect ≡ effectOf (reachedBy p (jobOf (getD jobs i d))) (z .effect)
         = ap (λ (t : Turn Label). t .effect) turn-is in
-        let w = turn-moves (jobOf (getD jobs i d)) s p (λ q. g (blocked-only _ (z .effect) (sym v ∙ q))) in
+        let w = turn-moves (jobOf (getD jobs i d)) s p .moves (λ q. g (blocked-only _ (z .effect) (sym v ∙ q))) in
         record {
           block = ap (λ (j : States.Job Label). j .block) u ∙ w .block;
           position = ap (λ (j : States.Job Label). j .position) u ∙ w .position;
@@ -266,7 +233,7 @@ module _ (b : List ℕ) (s : State Label) (cells : List Cell) (n : ℕ) (jobs : 
         record {
           answer = ap (λ (o : Outcome Label). o .answer) taken ∙ sym (t .answer);
           state = ap (λ (o : Outcome Label). o .state) taken;
-          room = rw (ap (λ (t : Turn Label). t .effect) turn-is) at (turn-allowed s (jobOf (getD jobs i d)) p);
+          room = rw (ap (λ (t : Turn Label). t .effect) turn-is) at (turn-allowed s (jobOf (getD jobs i d)) p .effect);
           stands = λ g. r;
           placed = λ g. placed-next b (getD jobs i d) (h .placed i d (omega (arith, r, h .jobs-fit))) p o e (z .job) (moved-on g .block) (moved-on g .position) (t .at);
         }

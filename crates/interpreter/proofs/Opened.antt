@@ -3,40 +3,30 @@
 --     opened              the whole
 -- Assumes nothing.
 use mathlib.Core.Path.{_≡_, refl, sym, ap, _∙_}
-use mathlib.Core.List.{List, [], _∷_, _++_, map}
-use Prim.Native.Nat.{ℕ, suc, _+_, _-_, _<_, _≤_}
+use mathlib.Core.List.{List, [], _∷_, map, map-append}
+use Prim.Native.Nat.{ℕ, suc, _+_, _%_, _<_, _≤_}
 use native.Mathlib.Omega.{arith}
-use lib.ListN.{getD-replicate, length, take, drop, getD, set, replicate, length-set}
+use lib.ListN.{getD-replicate, length, take, getD, set, replicate, length-set}
 use lib.Seq.{take-suc, take-suc-set, take-length}
 use Rattle.labels.specs.declared.Label.{Label}
-use Rattle.labels.specs.Labels.{label}
 use Rattle.book.specs.declared.Declared.{Declared}
-use Rattle.book.specs.declared.Outline.{Outline}
 use Rattle.book.specs.declared.CellAt.{CellAt}
 use Rattle.book.specs.declared.CellAt.the-variants.{NoCell, CellThere}
-use Rattle.book.specs.declared.Refusal.the-variants.{Passed}
-use Rattle.book.specs.Book.{parse, cellsOf, blocksOf, blockAt, declaredAt}
-use Rattle.book.specs.Refusals.{unreadable}
-use Rattle.book.specs.Outline.{outlineOf, boundAt}
+use Rattle.book.specs.Book.{parse, cellsOf, declaredAt}
 use Rattle.book.specs.Stretch.{cellFound}
-use Rattle.book.proofs.Blocks.{get-pad}
 use Rattle.book.proofs.Limits.{most-cells}
 use Rattle.book.proofs.Readable.{readable}
 use Rattle.typing.specs.Asked.{Listed}
-use Rattle.typing.proofs.Tables.{cells-are, starts-are, drawn-cell, drawn-start, drawn-listed}
+use Rattle.typing.proofs.Tables.{listed}
 use Rattle.machine.specs.Histories.{sources}
 use Rattle.machine.specs.States as States
 use Rattle.machine.specs.Acts.{freshJob}
-use Rattle.machine.specs.Events.{noBlock, launchLabel, declared}
+use Rattle.machine.specs.Events.{declared}
 use Rattle.acts.specs.declared.Cell.{Cell}
 use Rattle.acts.specs.declared.Job.{Job}
 use Rattle.acts.specs.Views.{cellOf, jobOf}
-use Rattle.interpreter.specs.Loop.{Holds, opening, startIn, openedBy, openedCells}
+use Rattle.interpreter.specs.Loop.{Holds, opening, startIn, openedBy, openedCells, First, Ready}
 use Rattle.interpreter.proofs.Starts.{placed-fresh}
-
-map-append : {A B : Type 0} (f : A → B) (xs ys : List A) → map f (xs ++ ys) ≡ map f xs ++ map f ys
-map-append f [] ys = refl
-map-append {B = B} f (x ∷ xs) ys = ap (λ (l : List B). f x ∷ l) (map-append f xs ys)
 
 -- i cells are open
 pub record Filling (b os : List ℕ) (cells : List Cell) (i : ℕ) : Type 0 where
@@ -95,51 +85,32 @@ unfolding openedCells
 declared-are b [] = refl
 declared-are b (o ∷ os) = ap (λ (l : List (States.Cell Label)). cellOf (openedBy (declaredAt b o)) ∷ l) (declared-are b os)
 
--- the outline t of a readable book b
-module _ (b : List ℕ) (t : Outline) (ok : unreadable b ≡ Passed) (et : t ≡ outlineOf b) where
-  pub open-cells-end : t .counts .cells ≤ length (t .cell)
-  open-cells-end = drawn-cell b ok t et
+-- what the loop asks for
+module _ (b : List ℕ) (c : Label) (shapes offsets starts : List ℕ) (bound : Label) (list cells jobs answers : List ℕ)
+    (y : Ready b c shapes offsets starts bound list cells jobs answers) where
+  few : length offsets ≤ 32
+  few = rw (y .offsets-are) (most-cells b (readable b (y .readable) .few))
 
-  pub open-starts-end : t .counts .blocks ≤ length (t .start)
-  open-starts-end = drawn-start b ok t et
+  pub open-listed : Listed b offsets × (length offsets ≤ 64)
+  open-listed = (rw (y .offsets-are) (listed b (readable b (y .readable))), omega (arith, few))
 
-  cells-count : length (take (t .counts .cells - 0) (drop 0 (t .cell))) ≡ t .counts .cells
-  unfolding outlineOf
-  cells-count = ap length (cells-are b ok t et) ∙ ap (λ (t : Outline). t .counts .cells) (sym et)
-
-  few : t .counts .cells ≤ 32
-  unfolding outlineOf
-  few = rw et (most-cells b (readable b ok .few))
-
-  pub open-listed : Listed b (take (t .counts .cells - 0) (drop 0 (t .cell))) × (length (take (t .counts .cells - 0) (drop 0 (t .cell))) ≤ 64)
-  open-listed = (drawn-listed b ok t et, omega (arith, cells-count, few))
-
-  bound-first : getD (t .bound) 0 0 ≡ launchLabel (parse b) .0
-  unfolding outlineOf parse blockAt
-  bound-first = ap (λ (t : Outline). getD (t .bound) 0 0) et ∙ get-pad 0 (map (boundAt b) (blocksOf b)) (64 - length (map (boundAt b) (blocksOf b))) 0 ∙ go (blocksOf b)
-    where
-      go : (os : List ℕ) → getD (map (boundAt b) os) 0 0 ≡ getD (map (blockAt b) os) 0 noBlock .bound .0
-      go [] = refl
-      go (o ∷ os) = refl
-
-  pub opened : (cells : List Cell) (at : ℕ) (j : Job) → length cells ≡ 64
-      → take (length (take (t .counts .cells - 0) (drop 0 (t .cell)))) cells ≡ openedCells b (take (t .counts .cells - 0) (drop 0 (t .cell)))
-      → at ≡ startIn (take (t .counts .blocks - 0) (drop 0 (t .start))) 0 (length b)
-      → jobOf j ≡ freshJob sources 0 (label (getD (t .bound) 0 0)) (label (getD (t .bound) 0 0)) → j .at ≡ at → j .position ≡ 0 → j .block ≡ 0
-      → Holds b (opening b) cells (t .counts .cells) (replicate 64 j) 1
+  pub opened : (held : List Cell) (j : Job) → length held ≡ 64 → take (length offsets) held ≡ openedCells b offsets → First starts bound (length b) j
+      → Holds b (opening b) held (length offsets) (replicate 64 j) 1
   unfolding parse
-  opened cells at j long e ea ej eat ep eb =
+  opened held j long e f =
       record {
-        cells-are =
-            ap (map cellOf) (ap (λ n. take n cells) (sym cells-count) ∙ e ∙ ap (openedCells b) (cells-are b ok t et)) ∙ declared-are b (cellsOf b);
+        cells-are = ap (map cellOf) (e ∙ ap (openedCells b) (y .offsets-are)) ∙ declared-are b (cellsOf b);
         cells-long = long;
         cells-fit = omega (arith, few);
-        jobs-are =
-            ap (λ (j : States.Job Label). j ∷ []) (ej ∙ ap (λ l. freshJob sources 0 (label l) (label l)) bound-first);
+        jobs-are = ap (λ (j : States.Job Label). j ∷ []) (f .job ∙ ap (λ (l : Label). freshJob sources 0 l l) (y .bound-is));
         jobs-long = refl;
         jobs-fit = omega arith;
         some-job = omega arith;
-        placed = λ i d h. rw (getD-replicate 64 i j d h) (placed-fresh b ok (take (t .counts .blocks - 0) (drop 0 (t .start))) (starts-are b ok t et) j 0 eb ep (eat ∙ ea));
+        placed = λ i d h. rw (getD-replicate 64 i j d h) (placed-fresh b (y .readable) starts (y .starts-are) j 0 (f .block) (f .position) (f .at));
       }
 
-pub ruleset opens = (open-cells-end, open-starts-end, open-listed, opened)
+-- job 0, read back from an array that holds it twice
+pub first-job : (starts : List ℕ) (bound : Label) (end at : ℕ) (j : Job) (n : ℕ) (d : Job) → at ≡ startIn starts 0 end
+    → jobOf j ≡ freshJob sources 0 bound bound → j .at ≡ at → j .position ≡ 0 → j .block ≡ 0 → First starts bound end (getD (replicate 2 j) (n % 2) d)
+first-job starts bound end at j n d e ej ea ep eb =
+    rw (getD-replicate 2 (n % 2) j d (omega arith)) (record { job = ej; at = ea ∙ e; position = ep; block = eb })

@@ -11,8 +11,6 @@ use lib.ListN.{length, getD}
 use borrow.Author.Tests.{lt-ltb, le-ltb}
 use Rattle.labels.specs.declared.Label.{Label}
 use Rattle.book.specs.declared.Shape.{Shape}
-use Rattle.book.specs.declared.Value.{Value}
-use Rattle.book.specs.declared.Value.the-variants.{Plain, CellName, CodeName}
 use Rattle.book.specs.declared.Step.{Step}
 use Rattle.book.specs.declared.Step.the-variants.{Put, Name, Code, Add, New, Read, Write, Relabel, Lower, Start, Exec}
 use Rattle.book.specs.declared.StepAt.{StepAt}
@@ -144,16 +142,6 @@ module _ (e : Event) where
   unfolding aimedAt
   aim-start q k d = simp d
 
-module _ (v : Value) (n : ℕ) where
-  pub number-plain : v ≡ Plain n → n ≡ numberOf v
-  number-plain e = simp e
-
-  pub number-cell : v ≡ CellName n → n ≡ numberOf v
-  number-cell e = simp e
-
-  pub number-code : v ≡ CodeName n → n ≡ numberOf v
-  number-code e = simp e
-
 module _ (j : Job) where
   pub number-there : (w : ℕ) (x : Stored) (n : ℕ) → storedOf x ≡ register sources (jobOf j) w → n ≡ numberOf (x .value) → n ≡ numberIn (jobOf j) w
   number-there w x n e en = en ∙ ap (λ (t : Traced Label). numberOf (t .value)) e
@@ -244,7 +232,7 @@ pub ruleset planned =
 pub ruleset actors = (clamp-in, clamp-out, actor-step, actor-write, actor-relabel, actor-new, actor-exec, actor-start)
 
 pub ruleset aims =
-    (aim-step, aim-write, aim-relabel, aim-new, aim-exec, aim-start, number-plain, number-cell, number-code, number-there, aim-halt, aim-take, aim-act)
+    (aim-step, aim-write, aim-relabel, aim-new, aim-exec, aim-start, number-there, aim-halt, aim-take, aim-act)
 
 pub ruleset reaches =
     (reach-put, reach-name, reach-code, reach-add, reach-new, reach-lower, reach-start, reach-read, reach-write, reach-relabel, reach-exec)

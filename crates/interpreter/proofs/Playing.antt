@@ -1,73 +1,65 @@
 -- Laws of the loop over the events, for the code: what a callee gave stands as a variable with its equation.
---     Setting, Playing      what stays, and what holds at each turn
---     plays                 the laws
+--     Playing      what holds at each turn
+--     plays        the laws
 -- Assumes nothing.
 use mathlib.Core.Path.{_≡_, refl, sym, ap, _∙_}
 use mathlib.Core.List.{List, map}
 use Prim.Native.Nat.{ℕ, _+_, _-_, _<_, _≤_}
 use native.Mathlib.Omega.{arith}
-use lib.ListN.{length, getD, set, length-set, length-map}
+use lib.ListN.{length, take, getD, set, replicate, length-set, length-map}
 use Rattle.labels.specs.declared.Label.{Label}
 use Rattle.book.specs.declared.Refusal.the-variants.{Passed}
 use Rattle.book.specs.Book.{parse, blocksOf, blockAt}
-use Rattle.book.specs.Refusals.{noShape, unreadable}
 use Rattle.book.specs.Outline.{shapeIn, startAt}
 use Rattle.book.proofs.Readable.{readable}
 use Rattle.machine.specs.Histories.{sources}
 use Rattle.machine.specs.Acts.{freshJob}
 use Rattle.machine.specs.Events.{tableSize, outcomeOf}
-use Rattle.events.specs.Bytes.{next, eventsIn}
+use Rattle.events.specs.Bytes.{next}
 use Rattle.events.proofs.Walks.{walk, passed-whole, passed-short}
 use Rattle.acts.specs.declared.Cell.{Cell}
 use Rattle.acts.specs.declared.Job.{Job}
 use Rattle.acts.specs.declared.Effect.{Effect}
 use Rattle.acts.specs.declared.Effect.the-variants.{Blocked, Keep, Store, Create, Launch}
 use Rattle.acts.specs.Views.{jobOf, effectOf}
-use Rattle.acts.proofs.Nearby.{Allowed}
+use Rattle.acts.proofs.Nearby.{create-room, launch-room}
 use Rattle.interpreter.specs.declared.Seen.{Seen}
 use Rattle.interpreter.specs.declared.Aim.{Aim}
 use Rattle.interpreter.specs.declared.Deed.{Deed}
-use Rattle.interpreter.specs.declared.Tables.{Tables}
 use Rattle.interpreter.specs.Plans.{Sees, Aims, Performs, actorOf}
-use Rattle.interpreter.specs.Loop.{Placed, Holds, startIn, Ready, Played}
+use Rattle.tables.specs.Bytes.{savedCells, savedJobs}
+use Rattle.interpreter.specs.Loop.{Placed, Holds, startIn, openedCells, First, Ready}
+use Rattle.interpreter.specs.Run.{Run, ranOf}
 use Rattle.interpreter.proofs.Lands.{stateOf, Lands, cells-in-use, jobs-in-use}
 use Rattle.interpreter.proofs.Events.{lands}
 use Rattle.interpreter.proofs.Holding.{holds-keep, holds-store, holds-past, holds-create, holds-launch}
 use Rattle.interpreter.proofs.Going.{Going, going-start, answer-fits, going-turn, going-end}
 use Rattle.interpreter.proofs.Starts.{placed-fresh}
+use Rattle.interpreter.proofs.Opened.{opened}
+use Rattle.interpreter.proofs.Finishing.{finish-is}
 
-pub record Setting (b : List ℕ) (c : Label) (shapes starts list before : List ℕ) : Type 0 where
-  pub readable-is : unreadable b ≡ Passed
-  pub c-is : c ≡ parse b .c
-  pub shapes-are : (i : ℕ) → shapeIn shapes i ≡ getD (parse b .shapes) i noShape
-  pub starts-are : starts ≡ map startAt (blocksOf b)
-  pub short : length list ≤ 65536
-  pub room : length (eventsIn list) ≤ length before
-
-pub record Playing (b : List ℕ) (c : Label) (shapes starts list before now : List ℕ) (cells : List Cell) (n : ℕ) (jobs : List Job) (m o at : ℕ) : Type 0 where
-  pub setting : Setting b c shapes starts list before
+-- of the memory lent for the tables only its length matters
+pub record Playing (b : List ℕ) (c : Label) (shapes offsets starts list room-cells room-jobs before now : List ℕ) (cells : List Cell) (n : ℕ) (jobs : List Job) (m o at : ℕ) : Type 0 where
+  pub bound : Label
+  pub setting : Ready b c shapes offsets starts bound list room-cells room-jobs before
   pub going : Going b list before now cells n jobs m at o
   pub long : length now ≡ length before
   pub cells-fit : n ≤ 64
   pub inside : o ≤ length list
   pub at-most : at ≤ o
 
-pub playing-start : (b : List ℕ) (c : Label) (shapes starts list before : List ℕ) (r : Tables) → Ready b c shapes starts r list before
-    → Playing b c shapes starts list before before (r .cells) (r .held) (r .jobs) (r .begun) 0 0
-playing-start b c shapes starts list before r y =
+pub playing-start : (b : List ℕ) (c : Label) (shapes offsets starts : List ℕ) (bound : Label) (list room-cells room-jobs before : List ℕ)
+    → Ready b c shapes offsets starts bound list room-cells room-jobs before
+    → (cells : List Cell) (j : Job) → length cells ≡ 64 → take (length offsets) cells ≡ openedCells b offsets → First starts bound (length b) j
+    → Playing b c shapes offsets starts list room-cells room-jobs before before cells (length offsets) (replicate 64 j) 1 0 0
+playing-start b c shapes offsets starts bound list room-cells room-jobs before y cells j long e f =
+    let h = opened b c shapes offsets starts bound list room-cells room-jobs before y cells j long e f in
     record {
-      setting =
-          record {
-            readable-is = y .readable;
-            c-is = y .c-is;
-            shapes-are = y .shapes-are;
-            starts-are = y .starts-are;
-            short = passed-short list (y .playable);
-            room = y .room;
-          };
-      going = going-start b list before r (passed-whole list (y .playable)) (y .opened);
+      bound = bound;
+      setting = y;
+      going = going-start b list before cells (length offsets) (replicate 64 j) 1 (passed-whole list (y .playable)) h;
       long = refl;
-      cells-fit = y .opened .cells-fit;
+      cells-fit = h .cells-fit;
       inside = omega arith;
       at-most = omega arith;
     }
@@ -76,13 +68,12 @@ blocks-count : (b starts : List ℕ) → starts ≡ map startAt (blocksOf b) →
 unfolding parse
 blocks-count b starts e = ap length e ∙ length-map (blocksOf b) startAt ∙ sym (length-map (blocksOf b) (blockAt b))
 
-module _ (b : List ℕ) (c : Label) (shapes starts list before now : List ℕ) (cells : List Cell) (n : ℕ) (jobs : List Job) (m o at : ℕ)
-    (w : Playing b c shapes starts list before now cells n jobs m o at) where
+module _ (b : List ℕ) (c : Label) (shapes offsets starts list room-cells room-jobs before now : List ℕ) (cells : List Cell) (n : ℕ) (jobs : List Job) (m o at : ℕ) (w : Playing b c shapes offsets starts list room-cells room-jobs before now cells n jobs m o at) where
   -- every job of the array is where the book says
   pub playing-small : (i : ℕ) (d j : Job) → i < 64 → j ≡ getD jobs i d → j .position < 65536
   playing-small i d j h e =
       let p = w .going .holds .placed i d h in
-      let r = readable b (w .setting .readable-is) in
+      let r = readable b (w .setting .readable) in
       let q = ap (λ (j : Job). j .position) e in
       omega (arith, p .behind, p .inside, r .short, q)
 
@@ -90,10 +81,26 @@ module _ (b : List ℕ) (c : Label) (shapes starts list before now : List ℕ) (
   pub playing-ready : (seen : Seen) (d : Job) → Sees list o seen → (getD jobs (seen .actor) d .position < 65536) × (n ≤ 64)
   playing-ready seen d es = (playing-small (seen .actor) d (getD jobs (seen .actor) d) (es .inside) refl, w .cells-fit)
 
-  pub playing-end : (r : Tables) → length list ≤ o → r .cells ≡ cells → r .held ≡ n → r .jobs ≡ jobs → r .begun ≡ m → Played b list before now r
-  playing-end r h ec en ej em = going-end b list before now cells n jobs m at o (w .going) r h ec en ej em
+  pub playing-sized : (n ≤ 64) × (length room-cells ≡ 576)
+  playing-sized = (w .cells-fit, w .setting .cells-sized)
+
+  pub playing-begun : (m ≤ 64) × (length room-jobs ≡ 3328)
+  playing-begun = (w .going .holds .jobs-fit, w .setting .jobs-sized)
+
+  pub playing-end : (x y : List ℕ) → length list ≤ o → x ≡ savedCells shapes (take n cells) → y ≡ savedJobs (take m jobs)
+      → _≡_ {A = Run} (record { refusal = Passed; cellCount = n; jobCount = m; cells = x; jobs = y; answered = now })
+      (ranOf Passed b list room-cells room-jobs before)
+  playing-end x y h ex ey =
+      finish-is b shapes list room-cells room-jobs before (w .setting .shapes-are) cells n jobs m now
+      (going-end b list before now cells n jobs m at o (w .going) h) x y ex ey
+
+  pub playing-fit : (n ≤ 64) × (m ≤ 64)
+  playing-fit = (w .cells-fit, w .going .holds .jobs-fit)
 
   module _ (h : o < length list) where
+    pub playing-few : at < 65536
+    playing-few = omega (arith, w .at-most, passed-short list (w .setting .playable))
+
     pub playing-fits : at < length now
     playing-fits = let f = answer-fits b list before now cells n jobs m at o (w .going) h (w .setting .room) in omega (arith, w .long)
 
@@ -113,10 +120,11 @@ module _ (b : List ℕ) (c : Label) (shapes starts list before now : List ℕ) (
 
         further : (cells′ : List Cell) (n′ : ℕ) (jobs′ : List Job) (m′ : ℕ) → n′ ≤ 64
             → Holds b (stateOf (w .going .state) (seen .actor) (aim .cell) (z .job) (z .effect)) cells′ n′ jobs′ m′
-            → Playing b c shapes starts list before (set now at (z .answer)) cells′ n′ jobs′ m′ (seen .next) (at + 1)
+            → Playing b c shapes offsets starts list room-cells room-jobs before (set now at (z .answer)) cells′ n′ jobs′ m′ (seen .next) (at + 1)
         further cells′ n′ jobs′ m′ f q =
             let k = walk list o (w .going .whole) h in
             record {
+              bound = w .bound;
               setting = w .setting;
               going =
                   going-turn b list before now cells n jobs m at o (w .going) h (w .setting .room) (seen .event) (es .event) (seen .next)
@@ -127,7 +135,7 @@ module _ (b : List ℕ) (c : Label) (shapes starts list before now : List ℕ) (
               at-most = omega (arith, es .next-is, k .further, w .at-most);
             }
 
-        pub playing-blocked : z .effect ≡ Blocked → Playing b c shapes starts list before (set now at (z .answer)) cells n jobs m (seen .next) (at + 1)
+        pub playing-blocked : z .effect ≡ Blocked → Playing b c shapes offsets starts list room-cells room-jobs before (set now at (z .answer)) cells n jobs m (seen .next) (at + 1)
         unfolding stateOf
         playing-blocked e = further cells n jobs m (w .cells-fit) (rw e (w .going .holds))
 
@@ -140,7 +148,7 @@ module _ (b : List ℕ) (c : Label) (shapes starts list before now : List ℕ) (
           placed = turn .placed (λ q. a (sym e ∙ q))
 
         pub playing-keep : z .effect ≡ Keep
-            → Playing b c shapes starts list before (set now at (z .answer)) cells n (set jobs (seen .actor) (z .job)) m (seen .next) (at + 1)
+            → Playing b c shapes offsets starts list room-cells room-jobs before (set now at (z .answer)) cells n (set jobs (seen .actor) (z .job)) m (seen .next) (at + 1)
         playing-keep e =
             let a : Keep ≡ Blocked → ⊥ = λ q. let u : _≡_ {A = ℕ} 0 1 = cc in omega arith in
             further cells n (set jobs (seen .actor) (z .job)) m (w .cells-fit)
@@ -148,7 +156,7 @@ module _ (b : List ℕ) (c : Label) (shapes starts list before now : List ℕ) (
 
         module _ (x : Cell) where
           pub playing-store : z .effect ≡ Store x
-              → Playing b c shapes starts list before (set now at (z .answer)) (set cells (aim .cell) x) n (set jobs (seen .actor) (z .job)) m (seen .next)
+              → Playing b c shapes offsets starts list room-cells room-jobs before (set now at (z .answer)) (set cells (aim .cell) x) n (set jobs (seen .actor) (z .job)) m (seen .next)
               (at + 1)
           playing-store e =
               let a : Store x ≡ Blocked → ⊥ = λ q. let u : _≡_ {A = ℕ} 0 1 = cc in omega arith in
@@ -156,18 +164,18 @@ module _ (b : List ℕ) (c : Label) (shapes starts list before now : List ℕ) (
               (rw e (holds-store b (w .going .state) cells n jobs m (w .going .holds) (seen .actor) (aim .cell) (z .job) (standing (Store x) e a) (placed (Store x) e a) x))
 
           pub playing-past : z .effect ≡ Store x → 64 ≤ aim .cell
-              → Playing b c shapes starts list before (set now at (z .answer)) cells n (set jobs (seen .actor) (z .job)) m (seen .next) (at + 1)
+              → Playing b c shapes offsets starts list room-cells room-jobs before (set now at (z .answer)) cells n (set jobs (seen .actor) (z .job)) m (seen .next) (at + 1)
           playing-past e k =
               let a : Store x ≡ Blocked → ⊥ = λ q. let u : _≡_ {A = ℕ} 0 1 = cc in omega arith in
               further cells n (set jobs (seen .actor) (z .job)) m (w .cells-fit)
               (rw e (holds-past b (w .going .state) cells n jobs m (w .going .holds) (seen .actor) (aim .cell) (z .job) (standing (Store x) e a) (placed (Store x) e a) x k))
 
           pub playing-room : z .effect ≡ Create x → n < 64
-          unfolding effectOf Allowed
-          playing-room e = let r = rw e at (turn .room) in omega (arith, cells-in-use b (w .going .state) cells n jobs m (w .going .holds))
+          unfolding effectOf
+          playing-room e = let r = create-room (w .going .state) (rw e at (turn .room)) in omega (arith, cells-in-use b (w .going .state) cells n jobs m (w .going .holds))
 
           pub playing-create : z .effect ≡ Create x
-              → Playing b c shapes starts list before (set now at (z .answer)) (set cells n x) (n + 1) (set jobs (seen .actor) (z .job)) m (seen .next)
+              → Playing b c shapes offsets starts list room-cells room-jobs before (set now at (z .answer)) (set cells n x) (n + 1) (set jobs (seen .actor) (z .job)) m (seen .next)
               (at + 1)
           playing-create e =
               let a : Create x ≡ Blocked → ⊥ = λ q. let u : _≡_ {A = ℕ} 0 1 = cc in omega arith in
@@ -177,12 +185,12 @@ module _ (b : List ℕ) (c : Label) (shapes starts list before now : List ℕ) (
 
         module _ (x : ℕ) (l g : Label) where
           pub playing-free : z .effect ≡ Launch x l g → m < 64
-          unfolding effectOf Allowed
-          playing-free e = let r = rw e at (turn .room) in omega (arith, jobs-in-use b (w .going .state) cells n jobs m (w .going .holds))
+          unfolding effectOf
+          playing-free e = let r = launch-room (w .going .state) (rw e at (turn .room)) in omega (arith, jobs-in-use b (w .going .state) cells n jobs m (w .going .holds))
 
           pub playing-launch : (start : ℕ) (child : Job) → z .effect ≡ Launch x l g → start ≡ startIn starts x (length b)
               → jobOf child ≡ freshJob sources x l g → child .at ≡ start → child .position ≡ 0 → child .block ≡ x
-              → Playing b c shapes starts list before (set now at (z .answer)) cells n (set (set jobs (seen .actor) (z .job)) m child) (m + 1) (seen .next)
+              → Playing b c shapes offsets starts list room-cells room-jobs before (set now at (z .answer)) cells n (set (set jobs (seen .actor) (z .job)) m child) (m + 1) (seen .next)
               (at + 1)
           playing-launch start child e st ef ea′ ep eb =
               let a : Launch x l g ≡ Blocked → ⊥ = λ q. let u : _≡_ {A = ℕ} 0 1 = cc in omega arith in
@@ -190,12 +198,15 @@ module _ (b : List ℕ) (c : Label) (shapes starts list before now : List ℕ) (
               (rw e
               (holds-launch b (w .going .state) cells n jobs m (w .going .holds) (seen .actor) (aim .cell) (z .job) (standing (Launch x l g) e a)
               (placed (Launch x l g) e a) x l g child (playing-free e) ef
-              (placed-fresh b (w .setting .readable-is) starts (w .setting .starts-are) child x eb ep (ea′ ∙ st))))
+              (placed-fresh b (w .setting .readable) starts (w .setting .starts-are) child x eb ep (ea′ ∙ st))))
 
 pub ruleset plays = (
   playing-start,
   playing-small,
+  playing-sized,
+  playing-begun,
   playing-end,
+  playing-fit,
   playing-fits,
   playing-falls,
   playing-blocked,

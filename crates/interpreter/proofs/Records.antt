@@ -2,7 +2,7 @@
 --     saved-cells, saved-jobs
 -- Assumes nothing.
 use mathlib.Core.Path.{_≡_, refl, sym, ap, _∙_}
-use mathlib.Core.List.{List, [], _∷_, map}
+use mathlib.Core.List.{List, map, map-map, map-congr-left}
 use Prim.Native.Nat.{ℕ}
 use lib.ListN.{getD}
 use Rattle.labels.specs.declared.Label.{Label}
@@ -21,9 +21,9 @@ use Rattle.acts.specs.declared.Job.{Job}
 use Rattle.acts.specs.Views.{storedOf, cellOf, jobOf}
 use Rattle.tables.specs.Bytes.{storedRecord, cellRecordIn, jobRecordOf, cellTable, jobTable, savedCells, savedJobs}
 
-map-map : {A B C : Type 0} (f : A → B) (g : B → C) (h : A → C) → ((a : A) → h a ≡ g (f a)) → (l : List A) → map h l ≡ map g (map f l)
-map-map f g h e [] = refl
-map-map {C = C} f g h e (x ∷ xs) = rw (e x, map-map f g h e xs) refl
+-- a map by way of another
+through : {A B C : Type 0} (f : A → B) (g : B → C) (h : A → C) → ((a : A) → h a ≡ g (f a)) → (l : List A) → map h l ≡ map g (map f l)
+through f g h e l = map-congr-left {l = l} (λ a m. e a) ∙ sym (map-map g f l)
 
 -- the records of the machine over sources
 abbrev valueBy : Traced Label → ValueRecord
@@ -41,16 +41,16 @@ pub saved-cells : (K : Book) (shapes : List ℕ) (l : List Cell) (hs : List (Sta
 unfolding savedCells
 saved-cells K shapes l hs are e =
     ap cellTable
-    (map-map cellOf (cellBy K) (cellRecordIn shapes) (λ c. ap (λ (x : Shape). record { shape = c .shape; trust = x .trust; label = c .label; value = storedRecord (c .content) }) (are (c .shape))) l ∙ ap (map (cellBy K)) e
-    ∙ sym (map-map (cellImage source) (cellBy K) (cellRecord K) (λ c. refl) hs))
+    (through cellOf (cellBy K) (cellRecordIn shapes) (λ c. ap (λ (x : Shape). record { shape = c .shape; trust = x .trust; label = c .label; value = storedRecord (c .content) }) (are (c .shape))) l ∙ ap (map (cellBy K)) e
+    ∙ sym (through (cellImage source) (cellBy K) (cellRecord K) (λ c. refl) hs))
 
 job-is : (j : Job) → jobRecordOf j ≡ jobBy (jobOf j)
-job-is j = rw (map-map storedOf valueBy storedRecord (λ v. refl) (j .registers)) refl
+job-is j = rw (through storedOf valueBy storedRecord (λ v. refl) (j .registers)) refl
 
 job-image : (j : States.Job History) → jobRecord j ≡ jobBy (jobImage source j)
-job-image j = rw (map-map (tracedImage source) valueBy valueRecord (λ v. refl) (j .registers)) refl
+job-image j = rw (through (tracedImage source) valueBy valueRecord (λ v. refl) (j .registers)) refl
 
 pub saved-jobs : (l : List Job) (hs : List (States.Job History)) → map jobOf l ≡ map (jobImage source) hs → savedJobs l ≡ jobTable (map jobRecord hs)
 unfolding savedJobs
 saved-jobs l hs e =
-    ap jobTable (map-map jobOf jobBy jobRecordOf job-is l ∙ ap (map jobBy) e ∙ sym (map-map (jobImage source) jobBy jobRecord job-image hs))
+    ap jobTable (through jobOf jobBy jobRecordOf job-is l ∙ ap (map jobBy) e ∙ sym (through (jobImage source) jobBy jobRecord job-image hs))

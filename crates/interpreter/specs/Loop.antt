@@ -3,13 +3,13 @@
 --     Holds         the arrays hold a state
 --     startIn       where a block starts
 --     openedCells   the declared cells at the start
+--     First         job 0 at the start
+--     Runnable      what a run that is not refused has
 --     Ready         what the loop asks for
---     Runnable, ..  what a run that is not refused asks for
---     Played        what it promises
 -- Assumes nothing.
 use Prim.Native.Nat.{ℕ, _<_, _≤_}
 use mathlib.Core.Path.{_≡_}
-use mathlib.Core.List.{List, map, _++_}
+use mathlib.Core.List.{List, map}
 use lib.Dec.{ltb}
 use lib.ListN.{length, take, drop, getD}
 use Rattle.labels.specs.declared.Label.{Label}
@@ -17,19 +17,19 @@ use Rattle.labels.specs.Labels.{label}
 use Rattle.book.specs.declared.Declared.{Declared}
 use Rattle.book.specs.declared.Refusal.the-variants.{Passed}
 use Rattle.book.specs.Control.{if_then_else_}
-use Rattle.book.specs.Book.{parse, blocksOf, stepAt, stepsFrom, declaredAt}
+use Rattle.book.specs.Book.{parse, cellsOf, blocksOf, stepAt, stepsFrom, declaredAt}
 use Rattle.book.specs.Refusals.{noShape, unreadable}
 use Rattle.book.specs.declared.Outline.{Outline}
 use Rattle.book.specs.Outline.{shapeIn, startAt, outlineOf}
 use Rattle.book.specs.Asked.{Whole}
 use Rattle.machine.specs.States.{State}
 use Rattle.machine.specs.Histories.{sources}
-use Rattle.machine.specs.Events.{tableSize, launchLabel, blockOf, freshState, stateAfter, answers}
+use Rattle.machine.specs.Acts.{freshJob}
+use Rattle.machine.specs.Events.{launchLabel, blockOf, freshState}
 use Rattle.events.specs.Bytes.{eventsIn, unplayable}
 use Rattle.acts.specs.declared.Cell.{Cell}
 use Rattle.acts.specs.declared.Job.{Job}
 use Rattle.acts.specs.Views.{cellOf, jobOf}
-use Rattle.interpreter.specs.declared.Tables.{Tables}
 
 -- in the book b the steps that are left of the job's block stand from j's offset on
 pub record Placed (b : List ℕ) (j : Job) : Type 0 where
@@ -65,37 +65,31 @@ openedBy d = record { shape = d .shape; label = d .label; content = record { val
 unfoldable pub openedCells : List ℕ → List ℕ → List Cell
 openedCells b os = map (λ o. openedBy (declaredAt b o)) os
 
--- a readable book, its C, shapes and starts, its state at the start, an event list, and room for the answers
-pub record Ready (b : List ℕ) (c : Label) (shapes starts : List ℕ) (first : Tables) (list answers : List ℕ) : Type 0 where
-  pub readable : unreadable b ≡ Passed
-  pub c-is : c ≡ parse b .c
-  pub shapes-are : (i : ℕ) → shapeIn shapes i ≡ getD (parse b .shapes) i noShape
-  pub starts-are : starts ≡ map startAt (blocksOf b)
-  pub opened : Holds b (opening b) (first .cells) (first .held) (first .jobs) (first .begun)
-  pub playable : unplayable list ≡ Passed
-  pub room : length (eventsIn list) ≤ length answers
+-- job 0 at the start, by the table of the blocks' starts: "Job 0 runs block 0 at its bound, history that bound."
+pub record First (starts : List ℕ) (bound : Label) (end : ℕ) (j : Job) : Type 0 where
+  pub job : jobOf j ≡ freshJob sources 0 bound bound
+  pub at : j .at ≡ startIn starts 0 end
+  pub position : j .position ≡ 0
+  pub block : j .block ≡ 0
 
--- a readable book and its outline, a list of events, and room for their answers
-pub record Playable (b : List ℕ) (t : Outline) (list answers : List ℕ) : Type 0 where
+-- a readable book and its outline, a list of events, and memory for the tables and the answers: what no refusal holds of
+pub record Runnable (b : List ℕ) (t : Outline) (list cells jobs answers : List ℕ) : Type 0 where
   pub readable : unreadable b ≡ Passed
   pub outlined : t ≡ outlineOf b
   pub playable : unplayable list ≡ Passed
   pub room : length (eventsIn list) ≤ length answers
-
--- what no refusal holds of
-pub record Runnable (b : List ℕ) (t : Outline) (list cells jobs answers : List ℕ) : Type 0 where
-  pub plays : Playable b t list answers
   pub cells-sized : length cells ≡ 576
   pub jobs-sized : length jobs ≡ 3328
 
--- tables of 64, and memory for them
-pub record Sized (r : Tables) (cells jobs : List ℕ) : Type 0 where
-  pub cells-fit : r .held ≤ 64
-  pub jobs-fit : r .begun ≤ 64
+-- the same with the parts of the outline that the loop is lent
+pub record Ready (b : List ℕ) (c : Label) (shapes offsets starts : List ℕ) (bound : Label) (list cells jobs answers : List ℕ) : Type 0 where
+  pub readable : unreadable b ≡ Passed
+  pub c-is : c ≡ parse b .c
+  pub shapes-are : (i : ℕ) → shapeIn shapes i ≡ getD (parse b .shapes) i noShape
+  pub offsets-are : offsets ≡ cellsOf b
+  pub starts-are : starts ≡ map startAt (blocksOf b)
+  pub bound-is : bound ≡ launchLabel (parse b)
+  pub playable : unplayable list ≡ Passed
+  pub room : length (eventsIn list) ≤ length answers
   pub cells-sized : length cells ≡ 576
   pub jobs-sized : length jobs ≡ 3328
-
--- the answers are the machine's, then what stood there; the arrays hold the machine's state
-pub record Played (b list before after : List ℕ) (r : Tables) : Type 0 where
-  pub answered : after ≡ answers sources tableSize (parse b) (opening b) (eventsIn list) ++ drop (length (eventsIn list)) before
-  pub holds : Holds b (stateAfter sources tableSize (parse b) (opening b) (eventsIn list)) (r .cells) (r .held) (r .jobs) (r .begun)

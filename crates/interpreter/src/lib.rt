@@ -7,7 +7,6 @@ pub use running::run;
 
 mod play;
 
-use acts::Cell;
 use acts::Effect;
 use acts::Job;
 use book::Refusal;
@@ -40,14 +39,6 @@ pub struct Deed {
     pub answer: u8,
     pub job: Job,
     pub effect: Effect,
-}
-
-// The tables of a run: the cells held and the jobs begun stand at the front.
-pub struct Tables {
-    pub cells: [Cell; 64],
-    pub jobs: [Job; 64],
-    pub held: usize,
-    pub begun: usize,
 }
 
 // What a run gives: its refusal, or the cells and jobs in use. After a refusal both are 0.

@@ -8,13 +8,11 @@ use acts::Job;
 use acts::Near;
 use book::Step;
 use book::StepAt;
-use book::Value;
 use labels::Label;
 use machine::Event;
 ghost use mathlib.Core.Path.{_≡_};
 ghost use Prim.Native.Nat.{_<_, _≤_};
 ghost use Rattle.book.specs.Outline.{shapeIn};
-ghost use Rattle.machine.specs.Records.{numberOf};
 ghost use Rattle.acts.specs.Views.{jobOf, numberIn, reachedBy};
 ghost use Rattle.acts.specs.Outside.{aimedAt};
 ghost use Rattle.interpreter.specs.Plans.{actPlan, planOf, clamped, actorOf, aimOf, answerOf, Performs, Sees, Aims};
@@ -99,22 +97,13 @@ pub fn actor_of(e: Event) -> usize
     }
 }
 
-fn number_of(v: Value) -> usize
-    ensures { λ r. ⌜ r ≡ numberOf v ⌝ }
-{
-    match v {
-        Value::Plain(n) => n as usize,
-        Value::CellName(n) => n as usize,
-        Value::CodeName(n) => n as usize,
-    }
-}
-
 fn number_in(j: Job, w: u8) -> usize
     ensures { λ r. ⌜ r ≡ numberIn (jobOf j) w ⌝ }
 {
     let x = acts::register_of(j, w);
     let v = x.value;
-    number_of(v)
+    let n = acts::number_of(v);
+    n as usize
 }
 
 // The cell that a step reaches.

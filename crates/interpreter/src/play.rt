@@ -1,12 +1,17 @@
 // The events of a run, one after the other.
-use crate::Tables;
+use crate::Ran;
+use crate::opening;
 use crate::plans;
 use acts::Effect;
 use acts::Job;
 use acts::Near;
+use book::Refusal;
 use labels::Label;
 ghost use mathlib.Core.Path.{_≡_};
-ghost use Rattle.interpreter.specs.Loop.{startIn, Ready, Played};
+ghost use Prim.Native.Nat.{_≤_};
+ghost use Rattle.book.specs.declared.Refusal.the-variants.{Passed};
+ghost use Rattle.interpreter.specs.Loop.{startIn, Ready};
+ghost use Rattle.interpreter.specs.Run.{Run, ranOf};
 
 // Where a block starts in the book; past the blocks the book's end.
 pub fn start_of(starts: &[u16], block: u32, end: usize) -> usize
@@ -19,34 +24,39 @@ pub fn start_of(starts: &[u16], block: u32, end: usize) -> usize
     end
 }
 
-// Runs the events from the tables as they are at the start. For an outsider's event job 0 is put back as it was.
+// Runs the events from the fresh state, and saves the tables. For an outsider's event job 0 is put back as it was.
 pub fn play(
     book: &[u8],
     c: Label,
     shapes: &[u8],
+    offsets: &[u16],
     starts: &[u16],
-    first: Tables,
+    bound: Label,
     list: &[u8],
+    cells: &mut [u8],
+    jobs: &mut [u8],
     answers: &mut [u8],
-) -> Tables
-    requires { ⌜ Ready (now book) c (now shapes) (now starts) first (now list) (now answers) ⌝ }
-    ensures { λ r. ⌜ Played (now (book .entry)) (now (list .entry)) (now (answers .entry)) (now (answers .exit)) r ⌝ }
+) -> Ran
+    requires { ⌜ Ready (now book) c (now shapes) (now offsets) (now starts) bound (now list) (now cells) (now jobs) (now answers) ⌝ }
+    ensures { λ r. ⌜ _≡_ {A = Run} (record { refusal = r .refusal; cellCount = r .cells; jobCount = r .jobs; cells = now (cells .exit); jobs = now (jobs .exit); answered = now (answers .exit) }) (ranOf Passed (now (book .entry)) (now (list .entry)) (now (cells .entry)) (now (jobs .entry)) (now (answers .entry))) ⌝ }
+    ensures { λ r. ⌜ (r .cells ≤ 64) × (r .jobs ≤ 64) ⌝ }
 {
-    let mut cells = first.cells;
-    let mut jobs = first.jobs;
-    let mut n = first.held;
-    let mut m = first.begun;
+    let mut held = opening::open_cells(book, offsets);
+    let job = opening::open_job(starts, bound, book.len());
+    let mut begun = [job; 64];
+    let mut n = offsets.len();
+    let mut m: usize = 1;
     let mut o: usize = 0;
     let mut at: usize = 0;
     while o < list.len() {
         let seen = plans::see_event(list, o);
         let e = seen.event;
         let i = seen.actor;
-        let j = jobs[i];
+        let j = begun[i];
         let aim = plans::take_aim(book, c, shapes, starts.len(), n, m, e, j);
         let k = aim.cell;
         let q = aim.entry;
-        let cell = cells[q];
+        let cell = held[q];
         let plan = aim.plan;
         let deed = plans::perform(
             plan,
@@ -66,31 +76,32 @@ pub fn play(
         match effect {
             Effect::Blocked => {}
             Effect::Keep => {
-                jobs[i] = job;
+                begun[i] = job;
             }
             Effect::Store(d) => {
-                jobs[i] = job;
+                begun[i] = job;
                 if k < 64 {
-                    cells[k] = d;
+                    held[k] = d;
                 }
             }
             Effect::Create(d) => {
-                jobs[i] = job;
-                cells[n] = d;
+                begun[i] = job;
+                held[n] = d;
                 n = n + 1;
             }
             Effect::Launch(x, l, h) => {
-                jobs[i] = job;
+                begun[i] = job;
                 let child = Job::fresh(x, start_of(starts, x, book.len()), l, h);
-                jobs[m] = child;
+                begun[m] = child;
                 m = m + 1;
             }
         }
     }
-    Tables {
-        cells: cells,
-        jobs: jobs,
-        held: n,
-        begun: m,
+    tables::save_cells(held, n, shapes, cells);
+    tables::save_jobs(begun, m, jobs);
+    Ran {
+        refusal: Refusal::Passed,
+        cells: n,
+        jobs: m,
     }
 }

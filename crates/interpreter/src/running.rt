@@ -1,17 +1,14 @@
 // The run of a book: refusals, then the events, then the lent tables.
 use crate::Ran;
-use crate::Tables;
-use crate::opening;
 use crate::play;
 use book::Outline;
 use book::Refusal;
+use labels::Label;
 ghost use mathlib.Core.Path.{_≡_};
 ghost use Prim.Native.Nat.{_≤_};
-ghost use lib.ListN.{take};
 ghost use Rattle.book.specs.declared.Refusal.the-variants.{Passed};
-ghost use Rattle.tables.specs.Bytes.{savedCells, savedJobs};
 ghost use Rattle.interpreter.specs.Run.{Run, refusalBy, ranOf, ran};
-ghost use Rattle.interpreter.specs.Loop.{Playable, Played, Sized, Runnable};
+ghost use Rattle.interpreter.specs.Loop.{Runnable};
 
 // The first refusal of the stages: of the book, of the event list, of the tables, of the answer buffer.
 fn refuse(
@@ -57,31 +54,6 @@ fn refuse(
     Refusal::Passed
 }
 
-// The events of a list on a book that was read.
-fn play_out(book: &[u8], t: Outline, list: &[u8], answers: &mut [u8]) -> Tables
-    requires { ⌜ Playable (now book) t (now list) (now answers) ⌝ }
-    ensures { λ r. ⌜ Played (now (book .entry)) (now (list .entry)) (now (answers .entry)) (now (answers .exit)) r ⌝ }
-{
-    let shapes = t.shape;
-    let start = t.start;
-    let n = t.counts;
-    let blocks = n.blocks;
-    let first = opening::open_run(book, t);
-    play::play(book, t.c, &shapes, &start[0..blocks], first, list, answers)
-}
-
-// The tables as bytes.
-fn store(t: Outline, last: Tables, cells: &mut [u8], jobs: &mut [u8])
-    requires { ⌜ Sized last (now cells) (now jobs) ⌝ }
-    ensures { λ _. ⌜ (now (cells .exit) ≡ savedCells (t .shape) (take (last .held) (last .cells))) × (now (jobs .exit) ≡ savedJobs (take (last .begun) (last .jobs))) ⌝ }
-{
-    let shapes = t.shape;
-    let last_cells = last.cells;
-    let last_jobs = last.jobs;
-    tables::save_cells(last_cells, last.held, &shapes, cells);
-    tables::save_jobs(last_jobs, last.begun, jobs);
-}
-
 // Runs what no refusal holds of.
 fn finish(
     book: &[u8],
@@ -95,13 +67,25 @@ fn finish(
     ensures { λ r. ⌜ _≡_ {A = Run} (record { refusal = r .refusal; cellCount = r .cells; jobCount = r .jobs; cells = now (cells .exit); jobs = now (jobs .exit); answered = now (answers .exit) }) (ranOf Passed (now (book .entry)) (now (list .entry)) (now (cells .entry)) (now (jobs .entry)) (now (answers .entry))) ⌝ }
     ensures { λ r. ⌜ (r .cells ≤ 64) × (r .jobs ≤ 64) ⌝ }
 {
-    let last = play_out(book, t, list, answers);
-    store(t, last, cells, jobs);
-    Ran {
-        refusal: Refusal::Passed,
-        cells: last.held,
-        jobs: last.begun,
-    }
+    let shapes = t.shape;
+    let cell = t.cell;
+    let start = t.start;
+    let bound = t.bound;
+    let n = t.counts;
+    let k = n.cells;
+    let b = n.blocks;
+    play::play(
+        book,
+        t.c,
+        &shapes,
+        &cell[0..k],
+        &start[0..b],
+        Label(bound[0]),
+        list,
+        cells,
+        jobs,
+        answers,
+    )
 }
 
 // Runs the events of a list on a book. Refused by 1 to 6 and 9 to 11, and then nothing is written; else the answers, and the tables of cells

@@ -2,7 +2,7 @@
 --     images       the law, for any image of histories
 -- Assumes nothing.
 use mathlib.Core.Path.{_≡_, refl, ap, ap₂, _∙_}
-use mathlib.Core.List.{List, [], _∷_, map}
+use mathlib.Core.List.{List, [], _∷_, map, map-append}
 use Prim.Native.Nat.{ℕ}
 use lib.ListN.{length-map, List·getD-map}
 use Rattle.labels.specs.declared.Label.{Label}
@@ -18,7 +18,7 @@ use Rattle.machine.specs.Acts.{Effect, blocked, keep, store, create, lau
 use Rattle.machine.specs.Steps.{Turn, register, adding, reading, lowering, turnOf}
 use Rattle.machine.specs.Events.{Outcome, landed, turnLanded, outcomeOf, declared, freshState, stateAfter, answers}
 use Rattle.machine.specs.Images.{Image, tracedImage, cellImage, jobImage, stateImage, outcomeImage, Images}
-use Rattle.machine.proofs.Maps.{map-set, map-append, getElem?-map, given-map, onSome-map, onPlain-map, onCell-map, onCode-map, onSome-entry}
+use Rattle.machine.proofs.Maps.{map-set, getElem?-map, given-map, onSome-map, onPlain-map, onCell-map, onCode-map, onSome-entry}
 
 module _ {G H : Type 0} (f : G → H) where
   unfoldable effectImage : Effect G → Effect H

@@ -1,11 +1,11 @@
 -- A map under the lists and the cases of the machine.
---     map-set, map-append, getElem?-map      tables
---     given-map, .., onCode-map              cases
+--     map-set, getElem?-map      tables
+--     given-map, .., onCode-map  cases
 -- Assumes nothing.
 use mathlib.Core.Path.{_≡_, refl, ap}
 use mathlib.Core.Bool.{Bool, true, false}
 use mathlib.Core.Option.{Option, none, some}
-use mathlib.Core.List.{List, [], _∷_, _++_, map}
+use mathlib.Core.List.{List, [], _∷_, map}
 use Prim.Native.Nat.{ℕ, zero, suc}
 use lib.ListN.{set, getElem?}
 use Rattle.book.specs.declared.Value.{Value}
@@ -18,10 +18,6 @@ module _ {A B : Type 0} (f : A → B) where
   map-set [] i a = refl
   map-set (x ∷ xs) zero a = refl
   map-set (x ∷ xs) (suc i) a = ap {B = List B} (λ r. f x ∷ r) (map-set xs i a)
-
-  pub map-append : (l r : List A) → map f (l ++ r) ≡ map f l ++ map f r
-  map-append [] r = refl
-  map-append (x ∷ xs) r = ap {B = List B} (λ t. f x ∷ t) (map-append xs r)
 
   abbrev pub optionMap : Option A → Option B
   optionMap none = none

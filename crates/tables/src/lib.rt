@@ -7,7 +7,7 @@ use labels::Trust;
 ghost use mathlib.Core.Path.{_≡_};
 ghost use Prim.Native.Nat.{_+_, _≤_};
 ghost use lib.ListN.{length, take};
-ghost use Rattle.machine.specs.Records.{kindOf, numberOf};
+ghost use Rattle.machine.specs.Records.{kindOf};
 ghost use Rattle.tables.specs.Bytes.{valueBytes, cellBytes, jobBytes, storedRecord, trustedRecord, jobRecordOf, savedCells, savedJobs};
 ghost use Rattle.tables.specs.Asked.{put, cleared};
 
@@ -41,23 +41,13 @@ fn kind_of(v: Value) -> u8
     }
 }
 
-fn number_of(v: Value) -> u32
-    ensures { λ r. ⌜ r ≡ numberOf v ⌝ }
-{
-    match v {
-        Value::Plain(n) => n,
-        Value::CellName(k) => k,
-        Value::CodeName(b) => b,
-    }
-}
-
 // Kind, number, source.
 fn value_bytes(v: Stored) -> [u8; 6]
     ensures { λ r. ⌜ r ≡ valueBytes (storedRecord v) ⌝ }
 {
     let value = v.value;
     let kind = kind_of(value);
-    let n = number_of(value);
+    let n = acts::number_of(value);
     [
         kind,
         (n % 256) as u8,

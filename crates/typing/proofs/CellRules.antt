@@ -31,7 +31,7 @@ at-some [] i h = absurd (omega arith)
 at-some (x ∷ xs) zero h = refl
 at-some (x ∷ xs) (suc i) h = at-some xs i (omega arith)
 
-pub at-none : (l : List ℕ) (i : ℕ) → length l ≤ i → getElem? l i ≡ none
+pub at-none : {A : Type 0} (l : List A) (i : ℕ) → length l ≤ i → getElem? l i ≡ none
 at-none [] i h = refl
 at-none (x ∷ xs) zero h = absurd (omega arith)
 at-none (x ∷ xs) (suc i) h = at-none xs i (omega arith)

@@ -38,7 +38,7 @@ use Rattle.typing.specs.Verdict.{cellFault, stepFault, orRefused, typed,
 use Rattle.typing.specs.Asked.{Sound, Listed, Laid, labelled, tableView}
 
 -- a declared cell's record stands at each offset
-listed : (s : List ℕ) → Readable s → Listed s (cellsOf s)
+pub listed : (s : List ℕ) → Readable s → Listed s (cellsOf s)
 unfolding cellFound both
 listed s r =
     record {

@@ -1,13 +1,12 @@
 -- Laws of the rules, for the code: what a callee gave stands as a variable with its equation.
 --     registers, addables, lowers, adds      one set for each
 -- Assumes nothing.
-use mathlib.Core.Path.{_≡_, refl, sym, ap, _∙_}
+use mathlib.Core.Path.{_≡_, sym, ap, _∙_}
 use mathlib.Core.Bool.{Bool, true, false}
 use mathlib.Core.List.{map}
 use Prim.Native.Nat.{ℕ, _≤_}
 use native.Mathlib.Omega.{arith}
-use lib.ListN.{length, set, length-map, List·getD-eq-default}
-use lib.Seq.{set-out}
+use lib.ListN.{length, length-map, List·getD-eq-default}
 use Rattle.labels.specs.declared.Label.{Label}
 use Rattle.labels.specs.Labels.{lower, reaches}
 use Rattle.book.specs.Control.{both, either}

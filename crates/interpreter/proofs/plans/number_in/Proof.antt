@@ -10,8 +10,11 @@ register-of-requires c κs = search needs
 number-of-requires : tie.Need-number-of-requires
 number-of-requires c κs = search needs
 
+cast-result : tie.Need-cast-result
+cast-result c = search needs
+
 returns : tie.Need-returns
 returns c = search (aims, needs)
 
 pub number-in-spec : {M : Type 1} → statement M
-number-in-spec = tie.close (tie.spec register-of-requires number-of-requires returns)
+number-in-spec = tie.close (tie.spec register-of-requires number-of-requires cast-result returns)
