@@ -35,7 +35,7 @@ fn main() {
 fn compare(book: &[u8]) -> Times {
     timing::compare(
         || {
-            black_box(verified::check(black_box(book)));
+            black_box(verified::verdict(black_box(book)));
         },
         || {
             black_box(reference::check(black_box(book)));

@@ -7,12 +7,26 @@ use reference::mixed_book;
 use reference::runs::{answer::outcome, Run};
 use std::hint::black_box;
 
+/// A book for one option, 93 bytes. Vol, rate and hedge are official cells, of trust 9, and a fourth
+/// cell is scratch, of trust 2. Block 0 reads vol and rate, adds both and a constant, writes the
+/// hedge, and starts block 1, of bound 2, which writes the scratch cell. The check refuses it, by 8
+/// at that start, so it is timed as a run only.
+const OPTION_BOOK: &[u8] = include_bytes!("../option.book");
+
+/// 20 events: the steps of both blocks and some more, three writes by outsiders, the last of them to
+/// the hedge and blocked, and a relabel of the scratch cell.
+const OPTION_EVENTS: &[u8] = include_bytes!("../option.events");
+
 /// How often each of the 64 jobs of `mixed` is asked for a step.
 const ROUNDS: [usize; 4] = [8, 16, 32, 64];
 
 pub fn time(book_a: &[u8]) {
     println!("run            events   verified us  reference us   ratio");
     time_run("A1", &Run::new(book_a.to_vec(), [80, 0].repeat(4)));
+    time_run(
+        "one option",
+        &Run::new(OPTION_BOOK.to_vec(), OPTION_EVENTS.to_vec()),
+    );
     time_run(
         "A1, longest",
         &Run::new(book_a.to_vec(), [80, 0].repeat(32_768)),
