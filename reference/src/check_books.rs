@@ -1,7 +1,7 @@
 //! The test books for checking: they reach "Typing a block" and pass or fail each of its rules at
 //! its boundary. They are the same at every call.
 
-mod change;
+pub(crate) mod change;
 mod declared;
 mod likeness;
 mod lowering;

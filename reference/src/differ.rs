@@ -1,4 +1,8 @@
-//! Runs by chance, compared between two implementations.
+//! Runs and books by chance, for comparing two implementations.
+
+mod books;
+
+pub use books::books;
 
 use crate::generate::dice::Dice;
 use crate::generate::Bytes;
@@ -17,11 +21,16 @@ pub struct Difference {
     pub other: (Outcome, Lent),
 }
 
+/// Runs without end, the same for the same seed, which must not be 0.
+pub fn runs(seed: u64) -> impl Iterator<Item = Run> {
+    let mut dice = Dice::new(seed);
+    (0..).map(move |number| any_run(&mut dice, number))
+}
+
 /// The first difference in so many runs. The seed must not be 0.
 pub fn differ(seed: u64, count: usize, one: Runner, other: Runner) -> Option<Difference> {
-    let mut dice = Dice::new(seed);
-    (0..count).find_map(|number| {
-        let run = any_run(&mut dice, number);
+    let mut runs = runs(seed).take(count).enumerate();
+    runs.find_map(|(number, run)| {
         let (one, other) = (outcome(one, &run), outcome(other, &run));
         (one != other).then_some(Difference {
             number,

@@ -1,6 +1,6 @@
 //! The test books. They are the same at every call: all chance comes from fixed seeds.
 
-mod chance;
+pub(crate) mod chance;
 mod counts;
 pub(crate) mod dice;
 pub(crate) mod huge;

@@ -34,7 +34,7 @@ pub fn books() -> Vec<Bytes> {
 }
 
 /// A book with one step replaced by another that breaks its rule, if one is found.
-fn broken(dice: &mut Dice, size: Size) -> Bytes {
+pub fn broken(dice: &mut Dice, size: Size) -> Bytes {
     let records = draft(dice, size);
     let mut bytes = records.concat();
     for _ in 0..200 {
@@ -64,7 +64,7 @@ fn places_of_steps(records: &Draft) -> Vec<usize> {
 }
 
 /// A changed book, mostly a readable one.
-fn changed(dice: &mut Dice, size: Size) -> Bytes {
+pub fn changed(dice: &mut Dice, size: Size) -> Bytes {
     loop {
         let mut records = draft(dice, size);
         for _ in 0..1 + dice.below(3) {

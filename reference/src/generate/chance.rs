@@ -23,6 +23,18 @@ pub fn books() -> Vec<Bytes> {
     books
 }
 
+/// A book of any of these sorts.
+pub fn any_book(dice: &mut Dice) -> Bytes {
+    let sorts = [
+        any_bytes,
+        likely_bytes,
+        any_records,
+        with_changed_bytes,
+        with_changed_records,
+    ];
+    dice.pick(&sorts)(dice)
+}
+
 fn any_bytes(dice: &mut Dice) -> Bytes {
     (0..dice.below(40)).map(|_| dice.byte()).collect()
 }

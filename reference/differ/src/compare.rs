@@ -1,0 +1,118 @@
+//! Two implementations on the same inputs by chance.
+
+use reference::book::Refusal;
+use reference::machine::{Outcome, Runner};
+use reference::runs::answer::{outcome, Lent};
+use reference::runs::Run;
+use reference::{differ, Verdict};
+use std::fmt;
+
+/// What was compared: how many inputs were refused by each number, 0 standing for none, and how
+/// many events were answered by each of 0 to 3.
+#[derive(Default)]
+pub struct Tally {
+    refusals: [usize; 13],
+    answers: [usize; 4],
+}
+
+impl Tally {
+    fn count_refusal(&mut self, number: u8) {
+        self.refusals[usize::from(number)] += 1;
+    }
+
+    /// Bytes beyond the events are no answers: they hold what they held before.
+    fn count_answers(&mut self, answers: &[u8]) {
+        for &answer in answers {
+            if let Some(count) = self.answers.get_mut(usize::from(answer)) {
+                *count += 1;
+            }
+        }
+    }
+}
+
+impl fmt::Display for Tally {
+    fn fmt(&self, out: &mut fmt::Formatter<'_>) -> fmt::Result {
+        write!(out, "{} not refused", self.refusals[0])?;
+        for (number, count) in self.refusals.iter().enumerate().skip(1) {
+            if *count > 0 {
+                write!(out, ", {count} by {number}")?;
+            }
+        }
+        if self.answers != [0; 4] {
+            write!(out, "; events answered 0 to 3: {:?}", self.answers)?;
+        }
+        Ok(())
+    }
+}
+
+/// The first input on which the two differ, and what each gives, in words.
+#[derive(Debug)]
+pub struct Difference(pub String);
+
+/// Compares so many runs: what each answers, and all the lent memory.
+pub fn runs(seed: u64, count: usize, one: Runner, other: Runner) -> Result<Tally, Difference> {
+    let mut tally = Tally::default();
+    for (number, run) in differ::runs(seed).take(count).enumerate() {
+        let (one, other) = (outcome(one, &run), outcome(other, &run));
+        if one != other {
+            return Err(different_run(number, &run, &one, &other));
+        }
+        tally.count_refusal(one.0.map_or_else(|refusal| refusal.number, |_| 0));
+        tally.count_answers(&one.1[2]);
+    }
+    Ok(tally)
+}
+
+/// What a book is answered: the verdict, and the offset and length of a block's stretch.
+pub type Checked = (Verdict, Result<(usize, usize), Refusal>);
+
+/// Asks for both, the stretch of the block of this number.
+pub type Checker = fn(&[u8], usize) -> Checked;
+
+/// The blocks asked for in turn; the last two never exist.
+const ASKED_BLOCKS: usize = 66;
+
+/// Compares so many books.
+pub fn books(seed: u64, count: usize, one: Checker, other: Checker) -> Result<Tally, Difference> {
+    let mut tally = Tally::default();
+    for (number, book) in differ::books(seed).take(count).enumerate() {
+        let block = number % ASKED_BLOCKS;
+        let (one, other) = (one(&book, block), other(&book, block));
+        if one != other {
+            let book = hex(&book);
+            return Err(Difference(format!(
+                "number {number}\nbook {book}\nblock {block}\none {one:?}\nother {other:?}"
+            )));
+        }
+        tally.count_refusal(match one.0 {
+            Verdict::Accepted { .. } => 0,
+            Verdict::Refused { number, .. } => number,
+        });
+    }
+    Ok(tally)
+}
+
+fn different_run(
+    number: usize,
+    run: &Run,
+    one: &(Outcome, Lent),
+    other: &(Outcome, Lent),
+) -> Difference {
+    Difference(format!(
+        "number {number}\nbook {}\nevents {}\nlengths {:?}\none {}\nother {}",
+        hex(&run.book),
+        hex(&run.events),
+        run.lengths,
+        side(one),
+        side(other)
+    ))
+}
+
+fn side((outcome, [cells, jobs, answers]): &(Outcome, Lent)) -> String {
+    let [cells, jobs, answers] = [cells, jobs, answers].map(|bytes| hex(bytes));
+    format!("{outcome:?}\n  cells {cells}\n  jobs {jobs}\n  answers {answers}")
+}
+
+fn hex(bytes: &[u8]) -> String {
+    bytes.iter().map(|byte| format!("{byte:02x}")).collect()
+}
