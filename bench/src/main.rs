@@ -3,7 +3,6 @@
 
 mod runs;
 mod timing;
-mod verified;
 
 use reference::{book, full_book, mixed_book, Verdict};
 use std::hint::black_box;
@@ -35,7 +34,7 @@ fn main() {
 fn compare(book: &[u8]) -> Times {
     timing::compare(
         || {
-            black_box(verified::verdict(black_box(book)));
+            black_box(verified::check(black_box(book)));
         },
         || {
             black_box(reference::check(black_box(book)));
@@ -71,7 +70,7 @@ fn time_cut(blocks: usize, book: &[u8]) {
 fn assert_same_verdict(book: &[u8]) {
     let expected = reference::check(book);
     assert!(matches!(expected, Verdict::Accepted { .. }), "{expected}");
-    assert_eq!(verified::verdict(book), expected);
+    assert_eq!(verified::check(book), expected);
 }
 
 /// The book up to the end of so many blocks.

@@ -1,7 +1,6 @@
 //! Times of whole runs.
 
 use crate::timing::{self, Times};
-use crate::verified;
 use reference::machine::{event, fast, Runner};
 use reference::mixed_book;
 use reference::runs::{answer::outcome, Run};
