@@ -1,7 +1,9 @@
 //! Times the verified check and run beside the reference's, on the same inputs in the same run. All
-//! are release builds. The run is timed beside the faster of the reference's two machines.
+//! are release builds. The run is timed beside the faster of the reference's two machines. A last
+//! table has the stack that the verified calls use.
 
 mod runs;
+mod stack;
 mod timing;
 
 use reference::{book, full_book, mixed_book, Verdict};
@@ -29,6 +31,9 @@ fn main() {
 
     println!();
     runs::time(BOOK_A);
+
+    println!();
+    stack::measure(BOOK_A);
 }
 
 fn compare(book: &[u8]) -> Times {

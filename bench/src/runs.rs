@@ -85,7 +85,7 @@ fn count(run: &Run) -> usize {
 }
 
 /// The largest book with steps of all kinds: its blocks are started, and then the 64 jobs take turns.
-fn mixed(rounds: usize) -> Run {
+pub fn mixed(rounds: usize) -> Run {
     let begin = (0..63u8).flat_map(|block| [85, block % 4, block]);
     let turns = (0..rounds).flat_map(|_| (0..64u8).flat_map(|job| [80, job]));
     Run::new(mixed_book(), begin.chain(turns).collect())

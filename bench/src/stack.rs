@@ -1,0 +1,43 @@
+//! How many bytes of stack a call uses. It is made on a thread whose stack is filled with a pattern,
+//! and what no longer holds the pattern afterwards was used. The frames between the thread and the
+//! library are counted too, some 300 bytes.
+
+mod thread;
+
+use crate::runs::mixed;
+use reference::runs::Run;
+use reference::{full_book, mixed_book};
+use std::hint::black_box;
+use thread::stack_used;
+
+/// As many rounds of `mixed` as the longest list has room for.
+const MOST_ROUNDS: usize = 510;
+
+pub fn measure(book_a: &[u8]) {
+    println!("call   input         events   stack bytes");
+    measure_check("A1", book_a);
+    measure_check("mixed_book", &mixed_book());
+    measure_check("full_book", &full_book());
+    let longest = [80, 0].repeat(32_768);
+    measure_run("A1", &Run::new(book_a.to_vec(), [80, 0].repeat(4)));
+    measure_run("A1", &Run::new(book_a.to_vec(), longest.clone()));
+    measure_run("mixed", &mixed(MOST_ROUNDS));
+    measure_run("full_book", &Run::new(full_book(), longest));
+}
+
+fn measure_check(name: &str, book: &[u8]) {
+    let used = stack_used(&mut || {
+        black_box(verified::check(black_box(book)));
+    });
+    println!("check  {name:<12}{:>8}{used:>14}", "");
+}
+
+fn measure_run(name: &str, run: &Run) {
+    let [mut cells, mut jobs, mut answers] = run.lengths.map(|length| vec![0; length]);
+    let used = stack_used(&mut || {
+        let (book, events) = black_box((&run.book, &run.events));
+        let outcome = verified::run(book, events, &mut cells, &mut jobs, &mut answers);
+        black_box(&outcome).as_ref().expect("it runs");
+    });
+    println!("run    {name:<12}{:>8}{used:>14}", answers.len());
+}
