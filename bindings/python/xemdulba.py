@@ -153,7 +153,7 @@ def _as_bytes(data: Bytes, name: str) -> bytes:
 
 
 def _space(length: int, byte: int = 0) -> ctypes.Array:
-    """Memory to lend, full of one byte."""
+    """Memory to lend, full of one byte. It has an address even where it is empty."""
     return (ctypes.c_ubyte * length).from_buffer(bytearray([byte]) * length)
 
 
