@@ -1,8 +1,8 @@
 -- `print::registers` meets its contract. Assumes nothing.
 use Prim.Native.Nat.{_≤_, _-_}
 use borrow.Author.Needs.{needs}
-use Rattle.play.proofs.print.registers.Tie as tie
-use Rattle.play.proofs.print.registers.Statement.{statement}
+use Rattle.run.proofs.print.registers.Tie as tie
+use Rattle.run.proofs.print.registers.Statement.{statement}
 
 abbrev Inv-loop : tie.InvT-loop
 Inv-loop table at r₀ t4 r = (at ≤ 4096) × (r ≤ 8)

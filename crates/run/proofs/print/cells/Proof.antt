@@ -1,8 +1,8 @@
--- `print::jobs` meets its contract. Assumes nothing.
+-- `print::cells` meets its contract. Assumes nothing.
 use Prim.Native.Nat.{_≤_, _-_}
 use borrow.Author.Needs.{needs}
-use Rattle.play.proofs.print.jobs.Tie as tie
-use Rattle.play.proofs.print.jobs.Statement.{statement}
+use Rattle.run.proofs.print.cells.Tie as tie
+use Rattle.run.proofs.print.cells.Statement.{statement}
 
 abbrev Inv-loop : tie.InvT-loop
 Inv-loop table n i₀ i = i ≤ n
@@ -13,8 +13,8 @@ abbrev μ-loop : tie.MeasureT-loop
 loop-holds : tie.Need-loop-holds Inv-loop μ-loop
 loop-holds c = search needs
 
-job-requires : tie.Need-job-requires Inv-loop μ-loop
-job-requires c κs = search needs
+cell-requires : tie.Need-cell-requires Inv-loop μ-loop
+cell-requires c κs = search needs
 
 add-i : tie.Need-add-i Inv-loop μ-loop
 add-i c = search needs
@@ -28,14 +28,14 @@ loop-again c = search needs
 returns : tie.Need-returns Inv-loop μ-loop
 returns c = search needs
 
-pub jobs-spec : {M : Type 1} → statement M
-jobs-spec =
+pub cells-spec : {M : Type 1} → statement M
+cells-spec =
     tie.close
     (tie.spec
     Inv-loop
     μ-loop
     loop-holds
-    job-requires
+    cell-requires
     add-i
     loop-less
     loop-again

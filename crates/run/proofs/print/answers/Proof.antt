@@ -1,8 +1,8 @@
 -- `print::answers` meets its contract. Assumes nothing.
 use Prim.Native.Nat.{_≤_, _-_}
 use borrow.Author.Needs.{needs}
-use Rattle.play.proofs.print.answers.Tie as tie
-use Rattle.play.proofs.print.answers.Statement.{statement}
+use Rattle.run.proofs.print.answers.Tie as tie
+use Rattle.run.proofs.print.answers.Statement.{statement}
 
 abbrev Inv-loop : tie.InvT-loop
 Inv-loop bytes n i₀ t5 t6 i = i ≤ n

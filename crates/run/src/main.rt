@@ -1,4 +1,4 @@
-// Runs the events of one file on the book of another and prints what the run gives: play BOOK EVENTS. Where a file cannot be read it says
+// Runs the events of one file on the book of another and prints what the run gives: run BOOK EVENTS. Where a file cannot be read it says
 // so on standard error and prints nothing. One byte more than the limit is enough to refuse a longer book or list.
 mod print;
 
@@ -31,13 +31,13 @@ fn read_argument(index: usize, space: &mut [u8]) -> Next {
     let mut path = io::buffer();
     let n = os::arg(index, &mut path);
     if os::errno() != 0 {
-        os::fail(b"usage: play BOOK EVENTS");
+        os::fail(b"usage: run BOOK EVENTS");
         return Next::End;
     }
     read_path(&path[..n], space)
 }
 
-fn play(book: &[u8], list: &[u8]) {
+fn run(book: &[u8], list: &[u8]) {
     let mut cells = [0u8; 576];
     let mut jobs = [0u8; 3328];
     let mut answers = [0u8; 32768];
@@ -45,20 +45,20 @@ fn play(book: &[u8], list: &[u8]) {
     print::outcome(list, ran, &cells, &jobs, &answers);
 }
 
-fn play_front(book: &[u8], space: &[u8], length: usize) {
+fn run_front(book: &[u8], space: &[u8], length: usize) {
     if length <= space.len() {
-        play(book, &space[..length]);
+        run(book, &space[..length]);
     }
 }
 
-fn play_book(space: &[u8], length: usize) {
+fn run_book(space: &[u8], length: usize) {
     if space.len() < length {
         return;
     }
     let mut list = [0u8; 65537];
     match read_argument(2, &mut list) {
         Next::End => {}
-        Next::Of(n) => play_front(&space[..length], &list, n),
+        Next::Of(n) => run_front(&space[..length], &list, n),
     }
 }
 
@@ -66,6 +66,6 @@ fn main() {
     let mut book = [0u8; 32769];
     match read_argument(1, &mut book) {
         Next::End => {}
-        Next::Of(n) => play_book(&book, n),
+        Next::Of(n) => run_book(&book, n),
     }
 }
