@@ -1,4 +1,9 @@
 // What the programs read and print: a file of books, each behind its length in 4 bytes, little-endian; and the words of an answer.
+mod input;
+
+pub use input::Input;
+pub use input::read_argument;
+pub use input::read_whole;
 use libc::STDIN_FILENO;
 use libc::STDOUT_FILENO;
 use typing::Verdict;
@@ -36,9 +41,8 @@ pub fn refused(n: u8, place: usize) {
     number(place);
 }
 
-// Checks a book and prints its verdict.
-pub fn verdict(book: &[u8]) {
-    let v = typing::check(book);
+// A verdict in words.
+pub fn answer(v: Verdict) {
     match v {
         Verdict::Refused { number, place } => refused(number, place),
         Verdict::Accepted {
@@ -52,6 +56,11 @@ pub fn verdict(book: &[u8]) {
         }
     }
     put(b"\n");
+}
+
+// Checks a book and prints its verdict.
+pub fn verdict(book: &[u8]) {
+    answer(typing::check(book));
 }
 
 fn wide(b: u8) -> usize

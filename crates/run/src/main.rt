@@ -2,40 +2,7 @@
 // so on standard error and prints nothing. One byte more than the limit is enough to refuse a longer book or list.
 mod print;
 
-use console::Next;
-
-// Whether the file was read and not left at a failure: a further read does not fail.
-fn is_readable(fd: i32) -> bool {
-    let mut more = [0u8; 1];
-    libc::read(fd, &mut more) >= 0
-}
-
-// Reads the file at a path into the space, as far as it goes.
-fn read_path(path: &[u8], space: &mut [u8]) -> Next {
-    let fd = os::open_read(path);
-    if fd < 0 {
-        os::fail(path);
-        return Next::End;
-    }
-    let length = io::read_full(fd, space);
-    if !is_readable(fd) {
-        os::fail(path);
-        return Next::End;
-    }
-    libc::close(fd);
-    Next::Of(length)
-}
-
-// Reads the file that an argument names.
-fn read_argument(index: usize, space: &mut [u8]) -> Next {
-    let mut path = io::buffer();
-    let n = os::arg(index, &mut path);
-    if os::errno() != 0 {
-        os::fail(b"usage: run BOOK EVENTS");
-        return Next::End;
-    }
-    read_path(&path[..n], space)
-}
+use libc::STDERR_FILENO;
 
 fn run(book: &[u8], list: &[u8]) {
     let mut cells = [0u8; 576];
@@ -45,27 +12,25 @@ fn run(book: &[u8], list: &[u8]) {
     print::outcome(list, ran, &cells, &jobs, &answers);
 }
 
-fn run_front(book: &[u8], space: &[u8], length: usize) {
-    if length <= space.len() {
-        run(book, &space[..length]);
-    }
-}
-
-fn run_book(space: &[u8], length: usize) {
-    if space.len() < length {
-        return;
-    }
-    let mut list = [0u8; 65537];
-    match read_argument(2, &mut list) {
-        Next::End => {}
-        Next::Of(n) => run_front(&space[..length], &list, n),
+// Reads the events, and runs them on the book.
+fn run_on(book: &[u8]) {
+    let mut space = [0u8; 65537];
+    let input = console::read_argument(2, &mut space);
+    if input.whole {
+        let n = input.length;
+        run(book, &space[..n]);
     }
 }
 
 fn main() {
-    let mut book = [0u8; 32769];
-    match read_argument(1, &mut book) {
-        Next::End => {}
-        Next::Of(n) => run_book(&book, n),
+    if os::arg_count() != 3 {
+        io::write_all(STDERR_FILENO, b"usage: run BOOK EVENTS\n");
+        return;
+    }
+    let mut space = [0u8; 32769];
+    let input = console::read_argument(1, &mut space);
+    if input.whole {
+        let n = input.length;
+        run_on(&space[..n]);
     }
 }

@@ -1,8 +1,12 @@
-// Reads a book on standard input and prints its verdict. One byte more than the limit is enough to refuse a longer book.
+// Reads a book on standard input and prints its verdict. Where the input cannot be read it says so on standard error and prints nothing. One
+// byte more than the limit is enough to refuse a longer book.
 use libc::STDIN_FILENO;
 
 fn main() {
     let mut space = [0u8; 32769];
-    let n = io::read_full(STDIN_FILENO, &mut space);
-    console::verdict(&space[..n]);
+    let input = console::read_whole(STDIN_FILENO, b"standard input", &mut space);
+    if input.whole {
+        let n = input.length;
+        console::verdict(&space[..n]);
+    }
 }
