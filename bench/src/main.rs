@@ -10,7 +10,7 @@ use reference::{book, full_book, mixed_book, Verdict};
 use std::hint::black_box;
 use timing::Times;
 
-const BOOK_A: &[u8] = include_bytes!("../../books/A1.book");
+const BOOK_A: &[u8] = include_bytes!("../../books/a1.book");
 
 /// How many blocks of `full_book` are kept. Its first cell names block 11, so 12 are the fewest.
 const KEPT_BLOCKS: [usize; 4] = [16, 32, 48, 64];
