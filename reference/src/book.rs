@@ -2,7 +2,7 @@
 //! refusal 12.
 
 mod fields;
-mod record;
+pub(crate) mod record;
 #[cfg(test)]
 pub(crate) mod tests;
 

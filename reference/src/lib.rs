@@ -8,6 +8,7 @@ pub mod differ;
 pub mod file;
 pub mod generate;
 pub mod large;
+pub mod listing;
 pub mod machine;
 pub mod runs;
 pub mod typing;

@@ -9,15 +9,17 @@
 //! `reference run BOOK EVENTS` prints in words what the events of a file do on the book in another.
 //! `reference differ N` compares the two machines of the reference on N runs by chance.
 //! `reference check FILE` prints the verdict on the one book in a file.
+//! `reference list FILE` prints that book in words.
+//! `reference pick N` reads a file of test books on standard input and writes book N, from 0.
 
-use reference::{answer, check, check_books, differ, file, generate, machine, runs};
+use reference::{answer, check, check_books, differ, file, generate, listing, machine, runs};
 use std::ffi::OsString;
 use std::fmt::Display;
 use std::io::{self, Read, Write};
 use std::process::ExitCode;
 
 const USAGE: &str = "usage: reference books | read | check-books | verdict | runs | run-answers
-       | run BOOK EVENTS | differ N | check FILE";
+       | run BOOK EVENTS | differ N | check FILE | list FILE | pick N";
 
 fn main() -> ExitCode {
     let mut arguments = std::env::args_os().skip(1);
@@ -46,6 +48,8 @@ fn run(
         (Some("run"), Some(path)) => print_run(path, events),
         (Some("differ"), Some(count)) => print_difference(count),
         (Some("check"), Some(path)) => print_verdict(path),
+        (Some("list"), Some(path)) => print_listing(path),
+        (Some("pick"), Some(index)) => pick_book(index),
         _ => Err(io::Error::other(USAGE)),
     }
 }
@@ -89,9 +93,13 @@ fn print_run(book: OsString, events: Option<OsString>) -> io::Result<()> {
 /// The seed of the runs by chance.
 const SEED: u64 = 0x5EED_0040;
 
+fn number(word: OsString) -> io::Result<usize> {
+    let number = word.to_str().and_then(|word| word.parse().ok());
+    number.ok_or_else(|| io::Error::other(USAGE))
+}
+
 fn print_difference(count: OsString) -> io::Result<()> {
-    let number = count.to_str().and_then(|word| word.parse().ok());
-    let count = number.ok_or_else(|| io::Error::other(USAGE))?;
+    let count = number(count)?;
     match differ::differ(SEED, count, machine::run, machine::fast::run) {
         Some(difference) => Err(io::Error::other(format!("{difference:?}"))),
         None => {
@@ -104,4 +112,16 @@ fn print_difference(count: OsString) -> io::Result<()> {
 fn print_verdict(path: OsString) -> io::Result<()> {
     println!("{}", check(&std::fs::read(path)?));
     Ok(())
+}
+
+fn print_listing(path: OsString) -> io::Result<()> {
+    print!("{}", listing::text(&std::fs::read(path)?));
+    Ok(())
+}
+
+fn pick_book(index: OsString) -> io::Result<()> {
+    let (index, bytes) = (number(index)?, standard_input()?);
+    let books = file::split(&bytes)?;
+    let book = books.get(index);
+    io::stdout().write_all(book.ok_or_else(|| io::Error::other("no such book"))?)
 }
