@@ -1,3 +1,4 @@
+pub mod Calls
 pub mod Tests
 pub mod Lists
 pub mod Between

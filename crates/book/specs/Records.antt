@@ -1,6 +1,7 @@
 -- The records of a book, by their offsets: "A book is read record by record from its first byte."
 --     byteAt, numberAt         a byte, a number
 --     next, cut                the offset past a record; refusal 2 holds of it
+--     readerAt                 a reader of a lent book, at an offset
 --     recordsFrom, records     the records from an offset on, up to one that refusal 2 holds of
 --     inGroup                  the group of a record
 -- Assumes nothing.
@@ -9,6 +10,8 @@ use mathlib.Core.Bool.{Bool, true, false}
 use mathlib.Core.List.{List, [], _∷_}
 use lib.ListN.{length, getD}
 use lib.Dec.{ltb, eqb}
+use denote.Ref.{RefT}
+use Rattle.book.specs.declared.reader.Reader.{Reader}
 use Rattle.book.specs.Control.{either}
 use Rattle.book.specs.Kinds.{span, group}
 
@@ -22,6 +25,10 @@ numberAt s o = byteAt s o + 256 * byteAt s (o + 1) + 65536 * byteAt s (o + 2) + 
 
 abbrev pub next : List ℕ → ℕ → ℕ
 next s o = o + span (byteAt s o)
+
+-- "read record by record from its first byte": what a reader of the lent book b holds at the offset o; it begins at 0
+abbrev pub readerAt : RefT (List ℕ) → ℕ → Reader
+readerAt b o = record { book = b; at = o }
 
 -- refusal 2: "A kind is none of the above, or the book ends inside a body."
 unfoldable pub cut : List ℕ → ℕ → Bool

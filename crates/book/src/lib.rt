@@ -4,6 +4,7 @@ mod faults;
 mod fields;
 mod gather;
 mod naming;
+mod reader;
 mod walk;
 
 pub use decode::cell_at;

@@ -1,20 +1,20 @@
-// From one record to the next.
+// From one record to the next, through the reader.
 use crate::Skipped;
 use crate::fields;
+use crate::reader::Reader;
 ghost use mathlib.Core.Path.{_≡_};
 ghost use Prim.Native.Nat.{_<_, _≤_};
 ghost use lib.ListN.{length};
 ghost use Rattle.book.specs.Records.{next};
 ghost use Rattle.book.specs.Asked.{Whole, skipped};
 
-// The offset past the record at an offset.
+// The offset past the record at an offset. Its callers see no reader, so they need no walk by hand.
 pub fn next_record(s: &[u8], o: usize) -> usize
     requires { ⌜ o < length (now s) ⌝ }
     ensures { λ r. ⌜ r ≡ next (now (s .entry)) o ⌝ }
 {
-    let k = s[o];
-    let w = fields::span_of(k);
-    o + w as usize
+    let r = Reader::new(s).moved(o).next();
+    r.at
 }
 
 // Past the steps that stand from an offset on.
