@@ -145,7 +145,7 @@ unfolding grouped group both span
 group-span k g h e l z =
     rw (positive (group k) g e l, z) at (at grouped (replicate 256 0) tt k h)
 
--- whether a whole record of group g stands at o; d is the group that was found there, w the span
+-- whether a whole record of group g stands at o; d is the group that was found there, p the offset past the record
 module _ (s : List ℕ) (g o : ℕ) where
   stands-past : length s ≤ o → stands s g o ≡ false
   unfolding both
@@ -156,21 +156,20 @@ module _ (s : List ℕ) (g o : ℕ) where
     unfolding both
     stands-other n = simp (lt-ltb _ _ h, ← ed, ne-eqb _ _ n)
 
-    module _ (w : ℕ) (e : d ≡ g) (q : w ≡ span (byteAt s o)) where
-      stands-short : length s - o < w → stands s g o ≡ false
+    module _ (p : ℕ) (e : d ≡ g) (q : p ≡ next s o) where
+      stands-short : length s < p → stands s g o ≡ false
       unfolding both cut
-      stands-short l = simp (lt-ltb _ _ h, ← ed, eq-eqb _ _ e, ← q, lt-ltb (length s) (o + w) (omega arith), either-true)
+      stands-short l = simp (lt-ltb _ _ h, ← ed, eq-eqb _ _ e, lt-ltb (length s) (next s o) (omega arith), either-true)
 
-      stands-whole : byteAt s o < 256 → 0 < g → w ≤ length s - o → stands s g o ≡ true
+      stands-whole : byteAt s o < 256 → 0 < g → p ≤ length s → stands s g o ≡ true
       unfolding both cut either
-      stands-whole b p l =
+      stands-whole b n l =
           simp (
             lt-ltb _ _ h,
             ← ed,
             eq-eqb _ _ e,
-            ne-eqb _ _ (group-span (byteAt s o) g b (sym ed ∙ e) p),
-            ← q,
-            le-ltb (length s) (o + w) (omega arith),
+            ne-eqb _ _ (group-span (byteAt s o) g b (sym ed ∙ e) n),
+            le-ltb (length s) (next s o) (omega arith),
           )
 
 module _ (s : List ℕ) (o : ℕ) where
@@ -195,21 +194,21 @@ module _ (s : List ℕ) (o : ℕ) where
     pub cell-other : (d ≡ 3 → ⊥) → NoCell ≡ cellFound s o
     cell-other n = no-cell (stands-other s 3 o d h ed n)
 
-    module _ (w : ℕ) (q : w ≡ span (byteAt s o)) where
-      pub step-short : d ≡ 5 → length s - o < w → NoStep ≡ stepFound s o
-      step-short e l = no-step (stands-short s 5 o d h ed w e q l)
+    module _ (p : ℕ) (q : p ≡ next s o) where
+      pub step-short : d ≡ 5 → length s < p → NoStep ≡ stepFound s o
+      step-short e l = no-step (stands-short s 5 o d h ed p e q l)
 
-      pub cell-short : d ≡ 3 → length s - o < w → NoCell ≡ cellFound s o
-      cell-short e l = no-cell (stands-short s 3 o d h ed w e q l)
+      pub cell-short : d ≡ 3 → length s < p → NoCell ≡ cellFound s o
+      cell-short e l = no-cell (stands-short s 3 o d h ed p e q l)
 
-      module _ (bytes : (i : ℕ) → Fits w8 (byteAt s i)) (l : w ≤ length s - o) where
-        pub step-there : (p : Step) → d ≡ 5 → p ≡ stepAt s o → StepThere p (o + w) ≡ stepFound s o
+      module _ (bytes : (i : ℕ) → Fits w8 (byteAt s i)) (l : p ≤ length s) where
+        pub step-there : (x : Step) → d ≡ 5 → x ≡ stepAt s o → StepThere x p ≡ stepFound s o
         unfolding stepFound
-        step-there p e ep = simp (stands-whole s 5 o d h ed w e q (bytes o .fits) (omega arith) l, ep, q)
+        step-there x e ex = simp (stands-whole s 5 o d h ed p e q (bytes o .fits) (omega arith) l, ex, q)
 
-        pub cell-there : (p : Declared) → d ≡ 3 → p ≡ declaredAt s o → CellThere p ≡ cellFound s o
+        pub cell-there : (x : Declared) → d ≡ 3 → x ≡ declaredAt s o → CellThere x ≡ cellFound s o
         unfolding cellFound
-        cell-there p e ep = simp (stands-whole s 3 o d h ed w e q (bytes o .fits) (omega arith) l, ep)
+        cell-there x e ex = simp (stands-whole s 3 o d h ed p e q (bytes o .fits) (omega arith) l, ex)
 
 pub ruleset found = (step-past, cell-past, step-other, cell-other, step-short, cell-short, step-there, cell-there)
 

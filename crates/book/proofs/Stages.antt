@@ -4,7 +4,7 @@
 use mathlib.Core.Path.{_≡_, refl, sym, _∙_}
 use mathlib.Core.Bool.{Bool, true, false}
 use mathlib.Core.List.{List}
-use Prim.Native.Nat.{ℕ, _+_, _-_, _≤_, _<_, min}
+use Prim.Native.Nat.{ℕ, _+_, _≤_, _<_, min}
 use native.Mathlib.Omega.{arith}
 use lib.Dec.{leb, ltb, eqb}
 use lib.ListN.{length}
@@ -26,23 +26,23 @@ pub cut-start : (s : List ℕ) → first (cut s) (recordsFrom s 0) ≡ cutFault 
 unfolding cutFault
 cut-start s = refl
 
-module _ (s : List ℕ) (o w : ℕ) (z : Fault) (q : w ≡ span (byteAt s o)) (h : o < length s) (inv : first (cut s) (recordsFrom s o) ≡ z) where
-  pub cut-none : w ≡ 0 → At o ≡ z
+module _ (s : List ℕ) (o p : ℕ) (z : Fault) (q : p ≡ next s o) (h : o < length s) (inv : first (cut s) (recordsFrom s o) ≡ z) where
+  pub cut-none : p ≡ o → At o ≡ z
   unfolding sweep cut either
   cut-none e =
-      let c : cut s o ≡ true = simp (← q, eq-eqb _ _ e) in
+      let c : cut s o ≡ true = simp (eq-eqb (span (byteAt s o)) 0 (omega arith)) in
       simp (records-cut s o h c, sweep, c) at inv
 
-  pub cut-short : length s - o < w → At o ≡ z
+  pub cut-short : length s < p → At o ≡ z
   unfolding sweep cut
-  cut-short e =
-      let c : cut s o ≡ true = simp (← q, lt-ltb (length s) (o + w) (omega arith), either-true) in
+  cut-short l =
+      let c : cut s o ≡ true = simp (lt-ltb (length s) (next s o) (omega arith), either-true) in
       simp (records-cut s o h c, sweep, c) at inv
 
-  pub cut-on : (w ≡ 0 → ⊥) → w ≤ length s - o → first (cut s) (recordsFrom s (o + w)) ≡ z
+  pub cut-on : (p ≡ o → ⊥) → p ≤ length s → first (cut s) (recordsFrom s p) ≡ z
   unfolding sweep cut either
-  cut-on e l =
-      let c : cut s o ≡ false = simp (← q, ne-eqb _ _ e, le-ltb (length s) (o + w) (omega arith)) in
+  cut-on n l =
+      let c : cut s o ≡ false = simp (ne-eqb (span (byteAt s o)) 0 (λ e. n (omega arith)), le-ltb (length s) (next s o) (omega arith)) in
       rw q (simp (records-more s o h c, sweep, c) at inv)
 
 pub cut-end : (s : List ℕ) (o : ℕ) (z : Fault) → first (cut s) (recordsFrom s o) ≡ z → length s ≤ o → Nowhere ≡ z

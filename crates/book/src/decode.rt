@@ -6,6 +6,7 @@ use crate::Step;
 use crate::StepAt;
 use crate::Value;
 use crate::fields;
+use crate::walk;
 use labels::Label;
 use labels::Trust;
 ghost use mathlib.Core.Path.{_≡_};
@@ -127,12 +128,12 @@ pub fn step_at(stretch: &[u8], offset: usize) -> StepAt
         if fields::group_of(k) != 5 {
             return StepAt::NoStep;
         }
-        let w = fields::span_of(k) as usize;
-        if stretch.len() - offset < w {
+        let end = walk::next_record(stretch, offset);
+        if stretch.len() < end {
             return StepAt::NoStep;
         }
         let step = decode_step(stretch, offset);
-        return StepAt::StepThere(step, offset + w);
+        return StepAt::StepThere(step, end);
     }
     StepAt::NoStep
 }
@@ -146,8 +147,8 @@ pub fn cell_at(book: &[u8], offset: usize) -> CellAt
         if fields::group_of(k) != 3 {
             return CellAt::NoCell;
         }
-        let w = fields::span_of(k) as usize;
-        if book.len() - offset < w {
+        let end = walk::next_record(book, offset);
+        if book.len() < end {
             return CellAt::NoCell;
         }
         let cell = decode_cell(book, offset);

@@ -16,15 +16,14 @@ pub fn cut_fault(s: &[u8]) -> Fault
 {
     let mut o: usize = 0;
     while o < s.len() {
-        let k = s[o];
-        let w = fields::span_of(k) as usize;
-        if w == 0 {
+        let end = walk::next_record(s, o);
+        if end == o {
             return Fault::At(o);
         }
-        if s.len() - o < w {
+        if s.len() < end {
             return Fault::At(o);
         }
-        o = o + w;
+        o = end;
     }
     Fault::Nowhere
 }

@@ -13,14 +13,8 @@ group-of-requires c κs = search needs
 returns : tie.Need-returns
 returns c = search found
 
-span-of-requires : tie.Need-span-of-requires
-span-of-requires c κs = search needs
-
-cast-w : tie.Need-cast-w
-cast-w c = search needs
-
-sub-if3 : tie.Need-sub-if3
-sub-if3 c = search needs
+next-record-requires : tie.Need-next-record-requires
+next-record-requires c κs = search needs
 
 returns-2 : tie.Need-returns-2
 returns-2 c = search found
@@ -41,9 +35,7 @@ cell-at-spec =
     shared-slice-read-k
     group-of-requires
     returns
-    span-of-requires
-    cast-w
-    sub-if3
+    next-record-requires
     returns-2
     decode-cell-requires
     returns-3

@@ -13,23 +13,14 @@ group-of-requires c κs = search needs
 returns : tie.Need-returns
 returns c = search found
 
-span-of-requires : tie.Need-span-of-requires
-span-of-requires c κs = search needs
-
-cast-w : tie.Need-cast-w
-cast-w c = search needs
-
-sub-if3 : tie.Need-sub-if3
-sub-if3 c = search needs
+next-record-requires : tie.Need-next-record-requires
+next-record-requires c κs = search needs
 
 returns-2 : tie.Need-returns-2
 returns-2 c = search found
 
 decode-step-requires : tie.Need-decode-step-requires
 decode-step-requires c κs = search needs
-
-add-t11 : tie.Need-add-t11
-add-t11 c = search needs
 
 returns-3 : tie.Need-returns-3
 returns-3 c = search found
@@ -44,11 +35,8 @@ step-at-spec =
     shared-slice-read-k
     group-of-requires
     returns
-    span-of-requires
-    cast-w
-    sub-if3
+    next-record-requires
     returns-2
     decode-step-requires
-    add-t11
     returns-3
     returns-4)
