@@ -1,24 +1,28 @@
-// Reading a job book: records, refusals 1 to 6, the outline, a block's stretch, the step or the declared cell at an offset.
+// The records of a job book: their fields, from one to the next, the step or the declared cell at an offset; and the words for what reading a book gives.
 mod decode;
-mod faults;
 mod fields;
-mod gather;
 mod naming;
 mod reader;
 mod walk;
 
 pub use decode::cell_at;
+pub use decode::decode_cell;
+pub use decode::decode_shape;
+pub use decode::decode_step;
 pub use decode::shape_in;
 pub use decode::step_at;
 pub use decode::value_of;
 pub use fields::byte;
+pub use fields::group_of;
 pub use fields::number;
 use labels::Label;
 use labels::Trust;
 pub use naming::value_named;
+pub use walk::next_record;
+pub use walk::skip_steps;
 ghost use mathlib.Core.Path.{_≡_};
-ghost use Rattle.book.specs.Outline.{noCounts, noOutline, refusedReading, reading};
-ghost use Rattle.book.specs.Stretch.{lost, foundBlock, stretch};
+ghost use Rattle.book.specs.Outline.{noCounts, noOutline, refusedReading};
+ghost use Rattle.book.specs.Stretch.{lost};
 
 // A step of a block, its fields in the record's order.
 pub enum Step {
@@ -132,7 +136,7 @@ pub enum CellAt {
 }
 
 impl Counts {
-    fn none() -> Counts
+    pub fn none() -> Counts
         ensures { λ r. ⌜ r ≡ noCounts ⌝ }
     {
         Counts {
@@ -146,7 +150,7 @@ impl Counts {
 
 impl Outline {
     // All zero: what a refusal hands back. The counts are written out: with a call for them LLVM copies each outline once more.
-    fn empty() -> Outline
+    pub fn empty() -> Outline
         ensures { λ r. ⌜ r ≡ noOutline ⌝ }
     {
         Outline {
@@ -168,7 +172,7 @@ impl Outline {
 }
 
 impl Reading {
-    fn refused(number: u8, place: usize) -> Reading
+    pub fn refused(number: u8, place: usize) -> Reading
         ensures { λ r. ⌜ r ≡ refusedReading number place ⌝ }
     {
         let outline = Outline::empty();
@@ -182,37 +186,8 @@ impl Reading {
     }
 }
 
-// Reads a book: its refusal by 1 to 6, or its outline.
-pub fn read(book: &[u8]) -> Reading
-    ensures { λ r. ⌜ r ≡ reading (now (book .entry)) ⌝ }
-{
-    if 32768 < book.len() {
-        return Reading::refused(1, 0);
-    }
-    if let Fault::At(o) = faults::cut_fault(book) {
-        return Reading::refused(2, o);
-    }
-    if let Fault::At(o) = faults::order_fault(book) {
-        return Reading::refused(3, o);
-    }
-    if let Fault::At(o) = faults::count_fault(book) {
-        return Reading::refused(4, o);
-    }
-    if let Fault::At(o) = faults::range_fault(book) {
-        return Reading::refused(5, o);
-    }
-    let outline = gather::outline(book);
-    if let Fault::At(o) = naming::name_fault(book, outline) {
-        return Reading::refused(6, o);
-    }
-    Reading {
-        refusal: Refusal::Passed,
-        outline: outline,
-    }
-}
-
 impl Found {
-    fn lost(number: u8, place: usize) -> Found
+    pub fn lost(number: u8, place: usize) -> Found
         ensures { λ r. ⌜ r ≡ lost number place ⌝ }
     {
         Found {
@@ -224,38 +199,4 @@ impl Found {
             length: 0,
         }
     }
-}
-
-// Where a block's stretch stands: its refusal by 1 to 6 or 12, or its start and length.
-pub fn find_block(book: &[u8], block: usize) -> Found
-    ensures { λ r. ⌜ r ≡ foundBlock (now (book .entry)) block ⌝ }
-{
-    let r = read(book);
-    let refusal = r.refusal;
-    match refusal {
-        Refusal::Refused { number, place } => Found::lost(number, place),
-        Refusal::Passed => {
-            let t = r.outline;
-            if block < t.counts.blocks {
-                let start = t.start[block];
-                let length = t.length[block];
-                return Found {
-                    refusal: Refusal::Passed,
-                    start: start as usize,
-                    length: length as usize,
-                };
-            }
-            Found::lost(12, 0)
-        }
-    }
-}
-
-// A block's stretch of the book, steps only; empty after a refusal, which find_block gives.
-pub fn block_stretch(book: &[u8], block: usize) -> &[u8]
-    ensures { λ r. ⌜ now r ≡ stretch (now (book .entry)) block ⌝ }
-{
-    let f = find_block(book, block);
-    let start = f.start;
-    let end = start + f.length;
-    &book[start..end]
 }

@@ -94,7 +94,7 @@ pub fn run(book: &[u8], list: &[u8], cells: &mut [u8], jobs: &mut [u8], answers:
     ensures { λ r. ⌜ _≡_ {A = Run} (record { refusal = r .refusal; cellCount = r .cells; jobCount = r .jobs; cells = now (cells .exit); jobs = now (jobs .exit); answered = now (answers .exit) }) (ran (now (book .entry)) (now (list .entry)) (now (cells .entry)) (now (jobs .entry)) (now (answers .entry))) ⌝ }
     ensures { λ r. ⌜ (r .cells ≤ 64) × (r .jobs ≤ 64) ⌝ }
 {
-    let r = book::read(book);
+    let r = reading::read(book);
     let s = events::scan(list);
     let read = r.refusal;
     let played = s.refusal;

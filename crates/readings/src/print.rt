@@ -19,7 +19,7 @@ fn readable(book: &[u8], t: Outline) {
 }
 
 fn reading(book: &[u8]) {
-    let r = book::read(book);
+    let r = reading::read(book);
     let refusal = r.refusal;
     let outline = r.outline;
     match refusal {
@@ -33,7 +33,7 @@ fn asked(book: &[u8], block: usize) {
     put(b"; block ");
     number(block);
     put(b" ");
-    let f = book::find_block(book, block);
+    let f = reading::find_block(book, block);
     let refusal = f.refusal;
     match refusal {
         Refusal::Refused { number, place } => refused(number, place),
@@ -41,7 +41,7 @@ fn asked(book: &[u8], block: usize) {
             put(b"start ");
             number(f.start);
             put(b" length ");
-            let stretch = book::block_stretch(book, block);
+            let stretch = reading::block_stretch(book, block);
             number(stretch.len());
         }
     }

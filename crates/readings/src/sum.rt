@@ -84,7 +84,7 @@ fn feed_steps(sum: u32, stretch: &[u8]) -> u32 {
 // Bound, start and length of the stretch, then the steps.
 fn feed_block(sum: u32, book: &[u8], i: usize, bound: u8, start: u16, length: u16) -> u32 {
     let head = feed(feed(feed_byte(sum, bound), start as u32), length as u32);
-    feed_steps(head, book::block_stretch(book, i))
+    feed_steps(head, reading::block_stretch(book, i))
 }
 
 fn feed_shapes(sum: u32, t: Outline) -> u32 {

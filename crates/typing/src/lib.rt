@@ -111,7 +111,7 @@ fn type_book(book: &[u8], t: Outline) -> Verdict
 pub fn check(book: &[u8]) -> Verdict
     ensures { λ r. ⌜ r ≡ verdict (now (book .entry)) ⌝ }
 {
-    let r = book::read(book);
+    let r = reading::read(book);
     let refusal = r.refusal;
     match refusal {
         Refusal::Refused { number, place } => Verdict::Refused {

@@ -82,7 +82,7 @@ pub extern "C" fn xemdulba_check(book: &[u8]) -> Checked
 pub extern "C" fn xemdulba_block(book: &[u8], block: u32) -> Stretch
     ensures { λ r. ⌜ r ≡ found (foundBlock (now (book .entry)) block) ⌝ }
 {
-    let f = book::find_block(book, block as usize);
+    let f = reading::find_block(book, block as usize);
     let refusal = f.refusal;
     match refusal {
         Refusal::Refused { number, place } => {

@@ -1,0 +1,127 @@
+-- `read` meets its contract. Assumes nothing.
+use mathlib.Core.Path.{sym, _∙_}
+use borrow.Author.Needs.{needs}
+use Rattle.book.proofs.Readable.{pass-whole, pass-small, pass-outlined, refuse1, refuse2, refuse3, refuse4, refuse5, refuse6, accepts}
+use Rattle.reading.proofs.read.Tie as tie
+use Rattle.reading.proofs.read.Statement.{statement}
+
+refused-requires : tie.Need-refused-requires
+refused-requires c κs = search needs
+
+returns : tie.Need-returns
+returns c = refuse1 _ _ (c .before .if1 .taken) (c .refused .ensures)
+
+cut-fault-requires : tie.Need-cut-fault-requires
+cut-fault-requires c κs = search needs
+
+enum-known-o : tie.Need-enum-known-o
+enum-known-o c = search needs
+
+refused-requires-2 : tie.Need-refused-requires-2
+refused-requires-2 c κs = search needs
+
+returns-2 : tie.Need-returns-2
+returns-2 c = refuse2 _ (c .before .before .before .before .before .if1 .left) _ _ (cc) (c .refused2 .ensures)
+
+enum-told : tie.Need-enum-told
+enum-told c = search needs
+
+order-fault-requires : tie.Need-order-fault-requires
+order-fault-requires c κs = pass-whole _ (cc)
+
+enum-known-o-2 : tie.Need-enum-known-o-2
+enum-known-o-2 c = search needs
+
+refused-requires-3 : tie.Need-refused-requires-3
+refused-requires-3 c κs = search needs
+
+returns-3 : tie.Need-returns-3
+returns-3 c = refuse3 _ (c .before .before .before .before .before .before .before .before .if1 .left) (cc) _ _ (cc) (c .refused3 .ensures)
+
+enum-told-2 : tie.Need-enum-told-2
+enum-told-2 c = search needs
+
+count-fault-requires : tie.Need-count-fault-requires
+count-fault-requires c κs = pass-whole _ (cc)
+
+enum-known-o-3 : tie.Need-enum-known-o-3
+enum-known-o-3 c = search needs
+
+refused-requires-4 : tie.Need-refused-requires-4
+refused-requires-4 c κs = search needs
+
+returns-4 : tie.Need-returns-4
+returns-4 c = refuse4 _ (c .before .before .before .before .before .before .before .before .before .before .before .if1 .left) (cc) (cc) _ _ (cc) (c .refused4 .ensures)
+
+enum-told-3 : tie.Need-enum-told-3
+enum-told-3 c = search needs
+
+range-fault-requires : tie.Need-range-fault-requires
+range-fault-requires c κs = pass-whole _ (cc)
+
+enum-known-o-4 : tie.Need-enum-known-o-4
+enum-known-o-4 c = search needs
+
+refused-requires-5 : tie.Need-refused-requires-5
+refused-requires-5 c κs = search needs
+
+returns-5 : tie.Need-returns-5
+returns-5 c = refuse5 _ (c .before .before .before .before .before .before .before .before .before .before .before .before .before .before .if1 .left) (cc) (cc) (cc) _ _ (cc) (c .refused5 .ensures)
+
+enum-told-4 : tie.Need-enum-told-4
+enum-told-4 c = search needs
+
+outline-requires : tie.Need-outline-requires
+outline-requires c κs = pass-small _ (c .before .before .before .before .before .before .before .before .before .before .before .before .if1 .left) (cc) (cc)
+
+name-fault-requires : tie.Need-name-fault-requires
+name-fault-requires c κs = pass-outlined _ (c .before .before .before .before .before .before .before .before .before .before .before .before .before .if1 .left) (cc) _ (cc) (c .outline .ensures)
+
+enum-known-o-5 : tie.Need-enum-known-o-5
+enum-known-o-5 c = search needs
+
+refused-requires-6 : tie.Need-refused-requires-6
+refused-requires-6 c κs = search needs
+
+returns-6 : tie.Need-returns-6
+returns-6 c = refuse6 _ (c .before .before .before .before .before .before .before .before .before .before .before .before .before .before .before .before .before .before .if1 .left) (sym (c .before .before .before .before .before .before .before .before .before .before .before .before .before .before .before .before .before .cut-fault .ensures) ∙ c .before .before .before .before .before .before .before .before .before .before .before .before .before .before .before .enum-told .given .1) (sym (c .before .before .before .before .before .before .before .before .before .before .before .before .before .before .order-fault .ensures) ∙ c .before .before .before .before .before .before .before .before .before .before .before .before .enum-told2 .given .1) (sym (c .before .before .before .before .before .before .before .before .before .before .before .count-fault .ensures) ∙ c .before .before .before .before .before .before .before .before .before .enum-told3 .given .1) (sym (c .before .before .before .before .before .before .before .before .range-fault .ensures) ∙ c .before .before .before .before .before .before .enum-told4 .given .1) _ _ (cc) (c .refused6 .ensures)
+
+enum-told-5 : tie.Need-enum-told-5
+enum-told-5 c = search needs
+
+returns-7 : tie.Need-returns-7
+returns-7 c = accepts _ (c .before .before .before .before .before .before .before .before .before .before .before .before .before .before .before .before .if1 .left) (cc) (cc) (cc) (cc) _ (cc) (c .before .before .before .outline .ensures)
+
+pub read-spec : {M : Type 1} → statement M
+read-spec =
+    tie.close
+    (tie.spec
+    refused-requires
+    returns
+    cut-fault-requires
+    enum-known-o
+    refused-requires-2
+    returns-2
+    enum-told
+    order-fault-requires
+    enum-known-o-2
+    refused-requires-3
+    returns-3
+    enum-told-2
+    count-fault-requires
+    enum-known-o-3
+    refused-requires-4
+    returns-4
+    enum-told-3
+    range-fault-requires
+    enum-known-o-4
+    refused-requires-5
+    returns-5
+    enum-told-4
+    outline-requires
+    name-fault-requires
+    enum-known-o-5
+    refused-requires-6
+    returns-6
+    enum-told-5
+    returns-7)

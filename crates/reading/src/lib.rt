@@ -1,0 +1,75 @@
+// Reading a job book: refusals 1 to 6, the outline, a block's stretch.
+mod faults;
+mod gather;
+mod naming;
+
+use book::Fault;
+use book::Found;
+use book::Reading;
+use book::Refusal;
+ghost use mathlib.Core.Path.{_≡_};
+ghost use Rattle.book.specs.Outline.{reading};
+ghost use Rattle.book.specs.Stretch.{foundBlock, stretch};
+
+// Reads a book: its refusal by 1 to 6, or its outline.
+pub fn read(book: &[u8]) -> Reading
+    ensures { λ r. ⌜ r ≡ reading (now (book .entry)) ⌝ }
+{
+    if 32768 < book.len() {
+        return Reading::refused(1, 0);
+    }
+    if let Fault::At(o) = faults::cut_fault(book) {
+        return Reading::refused(2, o);
+    }
+    if let Fault::At(o) = faults::order_fault(book) {
+        return Reading::refused(3, o);
+    }
+    if let Fault::At(o) = faults::count_fault(book) {
+        return Reading::refused(4, o);
+    }
+    if let Fault::At(o) = faults::range_fault(book) {
+        return Reading::refused(5, o);
+    }
+    let outline = gather::outline(book);
+    if let Fault::At(o) = naming::name_fault(book, outline) {
+        return Reading::refused(6, o);
+    }
+    Reading {
+        refusal: Refusal::Passed,
+        outline: outline,
+    }
+}
+
+// Where a block's stretch stands: its refusal by 1 to 6 or 12, or its start and length.
+pub fn find_block(book: &[u8], block: usize) -> Found
+    ensures { λ r. ⌜ r ≡ foundBlock (now (book .entry)) block ⌝ }
+{
+    let r = read(book);
+    let refusal = r.refusal;
+    match refusal {
+        Refusal::Refused { number, place } => Found::lost(number, place),
+        Refusal::Passed => {
+            let t = r.outline;
+            if block < t.counts.blocks {
+                let start = t.start[block];
+                let length = t.length[block];
+                return Found {
+                    refusal: Refusal::Passed,
+                    start: start as usize,
+                    length: length as usize,
+                };
+            }
+            Found::lost(12, 0)
+        }
+    }
+}
+
+// A block's stretch of the book, steps only; empty after a refusal, which find_block gives.
+pub fn block_stretch(book: &[u8], block: usize) -> &[u8]
+    ensures { λ r. ⌜ now r ≡ stretch (now (book .entry)) block ⌝ }
+{
+    let f = find_block(book, block);
+    let start = f.start;
+    let end = start + f.length;
+    &book[start..end]
+}

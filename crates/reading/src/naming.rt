@@ -1,0 +1,95 @@
+// Refusal 6: a record names what the book does not have.
+use book::Declared;
+use book::Fault;
+use book::Outline;
+use book::Step;
+use book::Value;
+ghost use mathlib.Core.Path.{_≡_};
+ghost use Prim.Native.Nat.{_<_};
+ghost use lib.ListN.{length};
+ghost use Rattle.book.specs.Refusals.{valueNamed, cellNamed, stepNamed, dangling, nameFault};
+ghost use Rattle.book.specs.Asked.{Outlined, cellKind};
+
+// The shape of this number is a cell shape.
+fn is_cell_shape(shapes: &[u8], i: u8) -> bool
+    ensures { λ r. ⌜ r ≡ cellKind (now (shapes .entry)) i ⌝ }
+{
+    let x = book::shape_in(shapes, i);
+    x.kind == 18
+}
+
+// A declared cell names a cell shape, and a cell or block that exists.
+fn cell_named(cell: Declared, shapes: &[u8], cells: usize, blocks: usize) -> bool
+    ensures { λ r. ⌜ r ≡ cellNamed (cellKind (now (shapes .entry))) cells blocks cell ⌝ }
+{
+    let value = cell.value;
+    if is_cell_shape(shapes, cell.shape) {
+        return book::value_named(value, cells, blocks);
+    }
+    false
+}
+
+// A step names a cell shape, a cell or a block that exists, where it names one.
+fn step_named(step: Step, shapes: &[u8], cells: usize, blocks: usize) -> bool
+    ensures { λ r. ⌜ r ≡ stepNamed (cellKind (now (shapes .entry))) cells blocks step ⌝ }
+{
+    match step {
+        Step::Put(_, _) => true,
+        Step::Name(_, k) => (k as usize) < cells,
+        Step::Code(_, b) => (b as usize) < blocks,
+        Step::Add(_, _, _) => true,
+        Step::New(_, i, _) => is_cell_shape(shapes, i),
+        Step::Read(_, _) => true,
+        Step::Write(_, _) => true,
+        Step::Relabel(_, _) => true,
+        Step::Lower(_) => true,
+        Step::Start(b) => (b as usize) < blocks,
+        Step::Exec(_) => true,
+    }
+}
+
+// The record at an offset, before which n shapes stand, names what the book does not have.
+fn is_dangling(s: &[u8], o: usize, n: usize, shapes: &[u8], cells: usize, blocks: usize) -> bool
+    requires { ⌜ o < length (now s) ⌝ }
+    ensures { λ r. ⌜ r ≡ dangling (cellKind (now (shapes .entry))) cells blocks (now (s .entry)) n o ⌝ }
+{
+    let k = s[o];
+    if k == 18 {
+        let content = book::byte(s, o + 1);
+        return n <= content as usize;
+    }
+    let g = book::group_of(k);
+    if g == 3 {
+        let cell = book::decode_cell(s, o);
+        return !cell_named(cell, shapes, cells, blocks);
+    }
+    if g == 5 {
+        let step = book::decode_step(s, o);
+        return !step_named(step, shapes, cells, blocks);
+    }
+    false
+}
+
+// 6: the first record that names what the book does not have.
+pub fn name_fault(s: &[u8], t: Outline) -> Fault
+    requires { ⌜ Outlined (now s) t ⌝ }
+    ensures { λ r. ⌜ r ≡ nameFault (now (s .entry)) ⌝ }
+{
+    let shapes = t.shape;
+    let cells = t.counts.cells;
+    let blocks = t.counts.blocks;
+    let mut o: usize = 0;
+    let mut n: usize = 0;
+    while o < s.len() {
+        if is_dangling(s, o, n, &shapes, cells, blocks) {
+            return Fault::At(o);
+        }
+        let k = s[o];
+        let g = book::group_of(k);
+        o = book::next_record(s, o);
+        if g == 2 {
+            n = n + 1;
+        }
+    }
+    Fault::Nowhere
+}
