@@ -1,6 +1,7 @@
 pub mod Calls
 pub mod Tests
 pub mod Lists
+pub mod Every
 pub mod Between
 pub mod Groups
 pub mod Records

@@ -2,17 +2,22 @@
 --     sweep-end      at the end of the book
 --     sweep-bad      a record at fault
 --     sweep-on       past a record that is not
+--     Cleared, cleared    of a stage that finds no fault: each record, and the records behind it
 -- Assumes nothing.
-use mathlib.Core.Path.{_≡_}
+use mathlib.Core.Path.{_≡_, refl, sym, _∙_}
 use mathlib.Core.Bool.{Bool, true, false}
-use mathlib.Core.List.{List}
+use mathlib.Core.List.{List, [], _∷_}
 use Prim.Native.Nat.{ℕ, _≤_, _<_}
+use native.Mathlib.Omega.{arith}
+use lib.Dec.{ltb}
 use lib.ListN.{length}
+use borrow.Author.Tests.{ltb-true, ltb-false}
 use Rattle.book.specs.declared.Fault.{Fault}
-use Rattle.book.specs.declared.Fault.the-variants.{At}
+use Rattle.book.specs.declared.Fault.the-variants.{Nowhere, At}
 use Rattle.book.specs.Control.{sweep}
 use Rattle.book.specs.Records.{next, recordsFrom}
 use Rattle.book.specs.Asked.{Whole}
+use Rattle.book.proofs.Every.{All}
 use Rattle.book.proofs.Records.{records-end, walk}
 
 module _ {S : Type 0} (bad : S → ℕ → Bool) (on : S → ℕ → S) (end : S → Fault) (s : List ℕ) (t : S) (o : ℕ) (z : Fault)
@@ -29,3 +34,37 @@ module _ {S : Type 0} (bad : S → ℕ → Bool) (on : S → ℕ → S) (end : S
     pub sweep-on : bad t o ≡ false → sweep bad on end (on t o) (recordsFrom s (next s o)) ≡ z
     unfolding sweep
     sweep-on b = simp (walk s o w h .list, sweep, b) at inv
+
+pub somewhere : {X : Type 0} {o : ℕ} → At o ≡ Nowhere → X
+somewhere e = let z : _≡_ {A = ℕ} 0 1 = cc in absurd (omega arith)
+
+module _ {S : Type 0} (bad : S → ℕ → Bool) (on : S → ℕ → S) (end : S → Fault) (s : List ℕ) where
+  -- the record at o is not at fault, and none behind it is
+  pub record Cleared (o : ℕ) : Type 0 where
+    pub before : S
+    pub fine : bad before o ≡ false
+    pub whole : Whole s (next s o)
+    pub rest : sweep bad on end (on before o) (recordsFrom s (next s o)) ≡ Nowhere
+
+  clear : (os : List ℕ) (t : S) (o : ℕ) → recordsFrom s o ≡ os → Whole s o → sweep bad on end t (recordsFrom s o) ≡ Nowhere → All Cleared os
+  clear [] t o e w h = tt
+  clear (x ∷ xs) t o e w h = go (ltb o (length s)) refl (bad t o) refl (clear xs (on t o) (next s o))
+    where
+      go : (a : Bool) → ltb o (length s) ≡ a → (b : Bool) → bad t o ≡ b
+          → (recordsFrom s (next s o) ≡ xs → Whole s (next s o) → sweep bad on end (on t o) (recordsFrom s (next s o)) ≡ Nowhere → All Cleared xs)
+          → All Cleared (x ∷ xs)
+      go false l b q r =
+          let y : x ∷ xs ≡ [] = sym e ∙ records-end s o (ltb-false _ _ l) in
+          let z : _≡_ {A = ℕ} 0 1 = cc in
+          absurd (omega arith)
+      go true l true q r = somewhere (sweep-bad bad on end s t o Nowhere h w (ltb-true _ _ l) q)
+      go true l false q r =
+          let k = walk s o w (ltb-true _ _ l) in
+          let f = sweep-on bad on end s t o Nowhere h w (ltb-true _ _ l) q in
+          let y : x ∷ xs ≡ o ∷ recordsFrom s (next s o) = sym e ∙ k .list in
+          let i : o ≡ x = cc in
+          let c : Cleared o = record { before = t; fine = q; whole = k .rest; rest = f } in
+          (rw i at c, r (cc) (k .rest) f)
+
+  pub cleared : (t : S) (o : ℕ) → Whole s o → sweep bad on end t (recordsFrom s o) ≡ Nowhere → All Cleared (recordsFrom s o)
+  cleared t o w h = clear (recordsFrom s o) t o refl w h

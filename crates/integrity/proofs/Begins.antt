@@ -18,13 +18,13 @@ use Rattle.book.specs.declared.Value.the-variants.{Plain, CellName, CodeName}
 use Rattle.book.specs.declared.Declared.{Declared}
 use Rattle.book.specs.Control.{both}
 use Rattle.book.specs.Book.{Book, Block}
+use Rattle.book.proofs.Every.{All}
 use Rattle.book.proofs.Tests.{both-left, both-right}
 use Rattle.typing.specs.declared.Known.the-variants as N
 use Rattle.typing.specs.Shapes.{viewOf, onSome, isCell, contentOf, trustOf, highTrust, fits, knownValue, declaredOk}
 use Rattle.machine.specs.Histories.{sources}
 use Rattle.machine.specs.Events.{blockOf, launchLabel, declared, freshState}
 use Rattle.integrity.proofs.Trees.{Grounded, Tree, cell, tree-cell, tree-trust}
-use Rattle.integrity.proofs.Entries.{All}
 use Rattle.integrity.proofs.Numbers.{facts, normal-above}
 use Rattle.integrity.proofs.Invariant.{Cells, shapeOf, treeOf, treeAt, Has, Fits, Good, CellOk, Invariant}
 use Rattle.integrity.proofs.Knowledge.{bound-is, named-has, fits-has}

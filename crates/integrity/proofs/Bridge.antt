@@ -15,12 +15,14 @@ use Rattle.book.specs.declared.Fault.{Fault}
 use Rattle.book.specs.declared.Fault.the-variants.{Nowhere, At}
 use Rattle.book.specs.declared.Refusal.{Refusal}
 use Rattle.book.specs.declared.Refusal.the-variants as B
-use Rattle.book.specs.Control.{either, those, sweep, first}
+use Rattle.book.specs.Control.{either, sweep, first}
 use Rattle.book.specs.Kinds.{limits}
 use Rattle.book.specs.Records.{byteAt, records, inGroup}
 use Rattle.book.specs.Book.{Block, groupOf, shapesOf, cellsOf, blocksOf, stepsFrom, shapeAt, declaredAt, stepAt, blockAt, parse}
 use Rattle.book.specs.Refusals.{noShape, above, outOfRange, rangeFault, unreadable}
+use Rattle.book.proofs.Every.{All, all-get, mapped, those-all}
 use Rattle.book.proofs.Tests.{either-left, either-right}
+use Rattle.book.proofs.Sweep.{somewhere}
 use Rattle.book.proofs.Lower.{lower}
 use Rattle.book.proofs.Readable.{readable}
 use Rattle.typing.specs.declared.State.{State}
@@ -30,12 +32,8 @@ use Rattle.typing.specs.Shapes.{View, viewOf, declaredOk}
 use Rattle.typing.specs.Rules.{Typed, passes, stuck, breaks, fresh, step, fault}
 use Rattle.typing.specs.Verdict.{cellFault, orThen, blockFault, stepFault, orRefused, typed, verdictOf, verdict}
 use Rattle.machine.specs.Events.{noBlock}
-use Rattle.integrity.proofs.Entries.{All, all-get}
 use Rattle.integrity.proofs.Invariant.{passesAll}
 use Rattle.integrity.proofs.Begins.{Accepted}
-
-somewhere : {X : Type 0} (o : ℕ) → At o ≡ Nowhere → X
-somewhere o e = let z : _≡_ {A = ℕ} 0 1 = cc in absurd (omega arith)
 
 -- where no record is at fault, each passes
 first-all : (f : ℕ → Bool) (os : List ℕ) → first f os ≡ Nowhere → All (λ o. f o ≡ false) os
@@ -44,21 +42,8 @@ first-all f [] e = tt
 first-all f (o ∷ os) e = go (f o) refl (first-all f os)
   where
     go : (b : Bool) → f o ≡ b → (first f os ≡ Nowhere → All (λ o. f o ≡ false) os) → All (λ o. f o ≡ false) (o ∷ os)
-    go true p r = somewhere o (simp (sweep, p) at e)
+    go true p r = somewhere (simp (sweep, p) at e)
     go false p r = (p, r (simp (sweep, p) at e))
-
-those-all : (P : ℕ → Type 0) (f : ℕ → Bool) (os : List ℕ) → All P os → All P (those f os)
-unfolding those
-those-all P f [] h = tt
-those-all P f (o ∷ os) h = go (f o) refl (those-all P f os (h .1))
-  where
-    go : (b : Bool) → f o ≡ b → All P (those f os) → All P (those f (o ∷ os))
-    go true p r = simp (those, p) (h .0, r)
-    go false p r = simp (those, p) r
-
-mapped : {A : Type 0} (P : ℕ → Type 0) (Q : A → Type 0) (f : ℕ → A) → ((o : ℕ) → P o → Q (f o)) → (os : List ℕ) → All P os → All Q (map f os)
-mapped P Q f g [] h = tt
-mapped P Q f g (o ∷ os) h = (g o (h .0), mapped P Q f g os (h .1))
 
 -- a trust is a label, and only a cell shape has one
 pub record Trusty (x : Shape) : Type 0 where
@@ -85,7 +70,7 @@ module _ (s : List ℕ) where
 
   trusties : rangeFault s ≡ Nowhere → All Trusty (parse s .shapes)
   unfolding rangeFault parse groupOf
-  trusties e = mapped _ Trusty (shapeAt s) trusty (shapesOf s) (those-all _ (inGroup s 2) (records s) (first-all (outOfRange s) (records s) e))
+  trusties e = mapped _ Trusty (shapeAt s) (λ o p. trusty o (p .known)) (shapesOf s) (those-all _ (inGroup s 2) (records s) (first-all (outOfRange s) (records s) e))
 
   declareds : (B : View) → cellFault B s (cellsOf s) ≡ Nowhere → All (λ d. declaredOk B d ≡ true) (parse s .cells)
   unfolding cellFault parse
@@ -107,12 +92,12 @@ module _ (B : View) (at : ℕ → Step) where
           → passesAll B (map at os) (step B t (at o)) ≡ true
       go (passes u) h r = rw h (r u (simp (fault, h) at e))
       go stuck h r = rw h (stuck-passes (map at os))
-      go breaks h r = somewhere o (simp (fault, h) at e)
+      go breaks h r = somewhere (simp (fault, h) at e)
 
 or-then : (f g : Fault) → orThen f g ≡ Nowhere → (f ≡ Nowhere) × (g ≡ Nowhere)
 unfolding orThen
 or-then Nowhere g e = (refl, e)
-or-then (At o) g e = somewhere o e
+or-then (At o) g e = somewhere e
 
 abbrev BlockPasses : View → Block → Type 0
 BlockPasses B b = passesAll B (b .steps) (passes (fresh (b .bound))) ≡ true

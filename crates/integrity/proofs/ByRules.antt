@@ -11,6 +11,7 @@ use Rattle.book.specs.declared.Step.{Step}
 use Rattle.book.specs.declared.Step.the-variants.{Put, Name, Code, Add, New, Read, Write, Relabel, Lower, Start, Exec}
 use Rattle.book.specs.Control.{if_then_else_}
 use Rattle.book.specs.Book.{Block, parse}
+use Rattle.book.proofs.Every.{All}
 use Rattle.typing.specs.declared.State.{State}
 use Rattle.typing.specs.declared.Verdict.the-variants.{Accepted}
 use Rattle.typing.specs.Shapes.{View, viewOf, declaredOk}
@@ -20,7 +21,6 @@ use Rattle.typing.specs.Verdict.{verdict}
 use Rattle.machine.specs.Events.{noBlock}
 use Rattle.integrity.specs.Weakened.{rulesOf, stepBy, walkBy, every, acceptedBy}
 use Rattle.integrity.proofs.Booleans.{both-true}
-use Rattle.integrity.proofs.Entries.{All}
 use Rattle.integrity.proofs.Invariant.{passesAll}
 use Rattle.integrity.proofs.Bridge.{accepted}
 

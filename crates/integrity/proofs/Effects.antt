@@ -10,11 +10,11 @@ use Prim.Native.Nat.{ℕ, zero, suc}
 use lib.ListN.{length, set, getElem?}
 use Rattle.labels.specs.declared.Label.{Label}
 use Rattle.book.specs.Book.{Book}
+use Rattle.book.proofs.Every.{All, all-set, all-push, all-map}
 use Rattle.machine.specs.States.{Cell, Job, State}
 use Rattle.machine.specs.Acts.{Effect, blocked, keep, store, create, launch}
 use Rattle.machine.specs.Events.{landed}
 use Rattle.integrity.proofs.Trees.{Tree}
-use Rattle.integrity.proofs.Entries.{All, all-set, all-push, all-map}
 use Rattle.integrity.proofs.Invariant.{Cells, treeOf, treeAt, CellOk, JobOk, Invariant, Grows, cell-kept, job-kept}
 
 module _ (K : Book) where

@@ -10,6 +10,7 @@ use Rattle.book.specs.declared.Value.{Value}
 use Rattle.book.specs.declared.Step.{Step}
 use Rattle.book.specs.declared.Step.the-variants.{Put, Name, Code, Add, New, Read, Write, Relabel, Lower, Start, Exec}
 use Rattle.book.specs.Book.{Book}
+use Rattle.book.proofs.Every.{All, all-set, all-push, all-at}
 use Rattle.machine.specs.declared.Event.{Event}
 use Rattle.machine.specs.declared.Event.the-variants.{StepOf, WriteBy, RelabelBy, NewBy, ExecBy, StartBy}
 use Rattle.machine.specs.Histories.{Histories}
@@ -18,7 +19,6 @@ use Rattle.machine.specs.Acts.{Effect, blocked, keep, store, create, launch, fr
 use Rattle.machine.specs.Steps.{Turn, gets, moved, adding, reading, lowering, through, turnOf}
 use Rattle.machine.specs.Events.{Outcome, landed, turnLanded, outcomeOf, freshState, stateAfter}
 use Rattle.machine.proofs.Cases.{given-both, some-both, plain-both, cell-both, code-both}
-use Rattle.integrity.proofs.Entries.{All, all-set, all-push, all-at}
 
 module _ {H : Type 0} where
   pub record Eight (j : Job H) : Type 0 where

@@ -17,6 +17,7 @@ use Rattle.book.specs.declared.Declared.{Declared}
 use Rattle.book.specs.declared.Step.{Step}
 use Rattle.book.specs.Book.{Book}
 use Rattle.book.specs.Refusals.{noShape}
+use Rattle.book.proofs.Every.{All}
 use Rattle.typing.specs.declared.Known.{Known}
 use Rattle.typing.specs.declared.Known.the-variants as N
 use Rattle.typing.specs.declared.Register.{Register}
@@ -26,7 +27,7 @@ use Rattle.typing.specs.Rules.{Typed, passes, stuck, breaks, step}
 use Rattle.machine.specs.States.{Traced, Cell, Job, State}
 use Rattle.machine.specs.Events.{blockOf}
 use Rattle.integrity.proofs.Trees.{Tree, plain, code, cell, tree}
-use Rattle.integrity.proofs.Entries.{All, All2, all2-map}
+use Rattle.integrity.proofs.Entries.{All2, all2-map}
 
 -- the steps pass, from what a rule says on
 module _ (B : View) where

@@ -11,6 +11,7 @@ use lib.ListN.{getElem?}
 use borrow.Author.Tests.{leb-true}
 use Rattle.labels.specs.declared.Label.{Label}
 use Rattle.book.specs.Book.{Book}
+use Rattle.book.proofs.Every.{all-at}
 use Rattle.book.proofs.Tests.{clash, both-left}
 use Rattle.typing.specs.Shapes.{viewOf, trustOf}
 use Rattle.typing.specs.Rules.{passes, fresh}
@@ -19,7 +20,7 @@ use Rattle.machine.specs.States.{Traced, Cell, State}
 use Rattle.machine.specs.Acts.{store, create, freshJob, writing, relabelling, making, starting, executing}
 use Rattle.machine.specs.Events.{blockOf}
 use Rattle.integrity.proofs.Trees.{Tree, cell, tree-trust}
-use Rattle.integrity.proofs.Entries.{all-at, all2-replicate}
+use Rattle.integrity.proofs.Entries.{all2-replicate}
 use Rattle.integrity.proofs.Numbers.{exec-low}
 use Rattle.integrity.proofs.Invariant.{Cells, passesAll, shapeOf, treeOf, Good, CellOk, RegisterOk, JobOk, Invariant}
 use Rattle.integrity.proofs.Effects.{EffectOk, store-ok, create-ok, launch-ok, store-tree}

@@ -14,6 +14,7 @@ use Rattle.labels.specs.Labels.{label}
 use Rattle.book.specs.declared.Value.{Value}
 use Rattle.book.specs.declared.Value.the-variants.{CellName}
 use Rattle.book.specs.Book.{Book}
+use Rattle.book.proofs.Every.{all-at}
 use Rattle.typing.specs.declared.Known.{Known}
 use Rattle.typing.specs.declared.Known.the-variants as N
 use Rattle.typing.specs.declared.State as T
@@ -25,7 +26,7 @@ use Rattle.machine.specs.States.{Traced, Cell, Job, State}
 use Rattle.machine.specs.Acts.{Effect, store, zeroWith}
 use Rattle.machine.specs.Steps.{register, gets, moved}
 use Rattle.integrity.proofs.Trees.{Grounded, cell, tree-cell}
-use Rattle.integrity.proofs.Entries.{all-at, all2-set, all2-get}
+use Rattle.integrity.proofs.Entries.{all2-set, all2-get}
 use Rattle.integrity.proofs.Numbers.{facts}
 use Rattle.integrity.proofs.Invariant.{Cells, shapeOf, treeOf, treeAt, Fits, Good, CellOk, RegisterOk, Match, Invariant, registers-kept}
 use Rattle.integrity.proofs.Effects.{After, EffectOk, store-ok, grows, store-tree}

@@ -11,6 +11,7 @@ use borrow.Author.Tests.{not-true, leb-true}
 use Rattle.labels.specs.declared.Label.{Label}
 use Rattle.book.specs.declared.Step.{Step}
 use Rattle.book.specs.Book.{Book}
+use Rattle.book.proofs.Every.{all-set, all-at, all-map}
 use Rattle.book.proofs.Tests.{clash, both-left, both-right}
 use Rattle.typing.specs.Shapes.{viewOf, onSome}
 use Rattle.typing.specs.Rules.{Typed, breaks}
@@ -22,7 +23,7 @@ use Rattle.machine.specs.States.{Job, State}
 use Rattle.machine.specs.Steps.{Turn, turnOf}
 use Rattle.machine.specs.Events.{Outcome, blockOf, brought, landed, turnLanded, outcomeOf, stateAfter}
 use Rattle.integrity.proofs.Trees.{Grounded}
-use Rattle.integrity.proofs.Entries.{all-set, all-at, all-map, drop-at}
+use Rattle.integrity.proofs.Entries.{drop-at}
 use Rattle.integrity.proofs.Numbers.{low-normal}
 use Rattle.integrity.proofs.Invariant.{passesAll, shapeOf, JobOk, Invariant, job-kept}
 use Rattle.integrity.proofs.Effects.{After, grows, landed-ok, landed-outside}

@@ -11,6 +11,7 @@ use Rattle.labels.specs.declared.Label.{Label}
 use Rattle.labels.specs.declared.Trust.{Trust}
 use Rattle.labels.specs.Labels.{reaches, isAbove, isHigh, isMet}
 use Rattle.book.specs.Book.{Book}
+use Rattle.book.proofs.Every.{map-all, map-from}
 use Rattle.typing.specs.Shapes as T
 use Rattle.machine.specs.declared.Event.{Event}
 use Rattle.machine.specs.Histories.{History, lists, lowest, source, sources}
@@ -21,7 +22,6 @@ use Rattle.machine.specs.Records.{cellRecord, jobRecord}
 use Rattle.machine.proofs.Sources.{source-law}
 use Rattle.integrity.specs.Integrity.{_isIn_, Kept}
 use Rattle.integrity.proofs.Trees.{cell, tree-cell}
-use Rattle.integrity.proofs.Entries.{map-all, map-from}
 use Rattle.integrity.proofs.Numbers.{lower-number, normal-high}
 use Rattle.integrity.proofs.Invariant.{shapeOf, treeOf, Good, CellOk, JobOk, Invariant}
 use Rattle.integrity.proofs.Runs.{state-after-ok}

@@ -12,6 +12,7 @@ use Rattle.book.specs.declared.Refusal.{Refusal}
 use Rattle.book.specs.declared.Refusal.the-variants.{Passed, Refused}
 use Rattle.book.specs.Records.{byteAt}
 use Rattle.book.specs.Book.{parse}
+use Rattle.book.proofs.Every.{all-in, map-from}
 use Rattle.typing.specs.declared.Verdict.the-variants.{Accepted}
 use Rattle.typing.specs.Verdict.{verdict}
 use Rattle.machine.specs.Histories.{lists}
@@ -22,7 +23,6 @@ use Rattle.tables.specs.Bytes.{cellBytes, jobBytes, cellTable, jobTable}
 use Rattle.interpreter.specs.Run.{unrunnable, finalState, ranOf}
 use Rattle.integrity.specs.Integrity.{_isIn_, Recorded}
 use Rattle.integrity.specs.Tables.{TablesKept, Tables}
-use Rattle.integrity.proofs.Entries.{all-in, map-from}
 use Rattle.integrity.proofs.Integrity.{integrity}
 use Rattle.integrity.proofs.Packed.{Entry, entry, job-long}
 use Rattle.integrity.proofs.Eight.{Eight, state-after-eight}
