@@ -1,5 +1,6 @@
 -- Laws of the groups: the group of a kind, and the kinds of a group.
 --     groups                     a kind's group, from what the code tested
+--     group-most                 the groups are 0 to 5
 --     is-cell, is-block, ..      the kinds of a group
 -- Assumes nothing.
 use mathlib.Core.Path.{_≡_, refl, sym}
@@ -92,6 +93,11 @@ module _ (k : ℕ) where
       go false p false q false r true u f v = c4 (sym (simp (p, q, r, u) at e)) u
       go false p false q false r false u true v = c5 (sym (simp (p, q, r, u, v) at e)) v
       go false p false q false r false u false v = c0 (sym (simp (p, q, r, u, v) at e))
+
+  pub group-most : group k ≤ 5
+  group-most =
+      passed (group k) refl (group k ≤ 5) (λ z q. omega arith) (λ z q. omega arith) (λ z q. omega arith) (λ z q. omega arith) (λ z q. omega arith)
+      (λ z. omega arith)
 
   pub is-cell : group k ≡ 3 → k ≡ 32
   is-cell e =

@@ -19,5 +19,6 @@ pub mod Gathered
 pub mod Named
 pub mod Lower
 pub mod Readable
+pub mod Parsed
 pub mod Blocks
 pub mod Bounds
