@@ -18,6 +18,7 @@ pub mod Integrity
 pub mod Eight
 pub mod Packed
 pub mod Tables
+pub mod JobsFit
 pub mod ByRules
 pub mod Tested
 pub mod Weakened

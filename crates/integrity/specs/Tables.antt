@@ -1,14 +1,20 @@
 -- What the tables of a run say, demand 3: of every accepted book, every event list and whatever the lent memory held. proofs/Tables.antt
--- proves it. 01, "What demand 3 speaks of". All names here are of specs/, of this crate or of those below it. Assumes nothing.
+-- proves it. 01, "What demand 3 speaks of". And that a job's block and position fit their bytes: proofs/JobsFit.antt. All names here are of
+-- specs/, of this crate or of those below it. Assumes nothing.
 use mathlib.Core.Path.{_≡_}
 use mathlib.Core.List.{List}
 use Prim.Native.Nat.{ℕ, _+_, _*_, _<_, _≤_}
+use lib.ListN.{length}
 use Rattle.book.specs.declared.Refusal.the-variants.{Passed}
 use Rattle.book.specs.Records.{byteAt}
-use Rattle.book.specs.Book.{parse}
+use Rattle.book.specs.Book.{Book, parse}
+use Rattle.book.specs.Refusals.{unreadable}
 use Rattle.typing.specs.declared.Verdict.the-variants.{Accepted}
 use Rattle.typing.specs.Verdict.{verdict}
-use Rattle.interpreter.specs.Run.{Run, ran}
+use Rattle.machine.specs.Events.{blockOf}
+use Rattle.machine.specs.Records.{JobRecord, jobRecords}
+use Rattle.interpreter.specs.Run.{Run, ran, finalState}
+use Rattle.integrity.specs.Integrity.{_isIn_}
 
 -- "A cell record holds shape, trust, label and value", 9 bytes; its last is the value's source. Of cell i:
 abbrev pub trustIn : Run → ℕ → ℕ
@@ -39,3 +45,15 @@ abbrev pub Tables : Type 0
 Tables = (book : List ℕ) (shapes cells blocks steps : ℕ) → verdict book ≡ Accepted shapes cells blocks steps
     → (list cellsBefore jobsBefore room : List ℕ) → ran book list cellsBefore jobsBefore room .refusal ≡ Passed
     → TablesKept (parse book .c .0) (ran book list cellsBefore jobsBefore room)
+
+-- "a job record block, position (how many of the block's steps are done)": a block of the book, and no more steps than it has. "64 blocks or
+-- 64 steps in a block": so each fits its byte.
+pub record JobFits (K : Book) (r : JobRecord) : Type 0 where
+  pub block : r .block < length (K .blocks)
+  pub position : r .position ≤ length (blockOf K (r .block) .steps)
+  pub block-small : r .block < 64
+  pub position-small : r .position ≤ 64
+
+-- "running 1 to 6": of every run of a book that can be read, accepted or not.
+abbrev pub JobsFit : Type 0
+JobsFit = (book : List ℕ) → unreadable book ≡ Passed → (list : List ℕ) (r : JobRecord) → r isIn jobRecords (finalState book list) → JobFits (parse book) r
