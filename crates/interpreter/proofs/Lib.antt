@@ -5,6 +5,7 @@ pub mod Events
 pub mod Holding
 pub mod Going
 pub mod Starts
+pub mod Narrows
 pub mod Playing
 pub mod Opened
 pub mod Records

@@ -28,12 +28,14 @@ use Rattle.interpreter.specs.declared.Aim.{Aim}
 use Rattle.interpreter.specs.declared.Deed.{Deed}
 use Rattle.interpreter.specs.Plans.{Sees, Aims, Performs, actorOf}
 use Rattle.tables.specs.Bytes.{savedCells, savedJobs}
+use Rattle.tables.specs.Asked.{NarrowJobs}
 use Rattle.interpreter.specs.Loop.{Placed, Holds, startIn, openedCells, First, Ready}
 use Rattle.interpreter.specs.Run.{Run, ranOf}
 use Rattle.interpreter.proofs.Lands.{stateOf, Lands, cells-in-use, jobs-in-use}
 use Rattle.interpreter.proofs.Events.{lands}
 use Rattle.interpreter.proofs.Holding.{holds-keep, holds-store, holds-past, holds-create, holds-launch}
 use Rattle.interpreter.proofs.Going.{Going, going-start, answer-fits, going-turn, going-end}
+use Rattle.interpreter.proofs.Narrows.{played-narrow}
 use Rattle.interpreter.proofs.Starts.{placed-fresh}
 use Rattle.interpreter.proofs.Opened.{opened}
 use Rattle.interpreter.proofs.Finishing.{finish-is}
@@ -84,8 +86,10 @@ module _ (b : List ℕ) (c : Label) (shapes offsets starts list room-cells room-
   pub playing-sized : (n ≤ 64) × (length room-cells ≡ 576)
   playing-sized = (w .cells-fit, w .setting .cells-sized)
 
-  pub playing-begun : (m ≤ 64) × (length room-jobs ≡ 3328)
-  playing-begun = (w .going .holds .jobs-fit, w .setting .jobs-sized)
+  pub playing-begun : length list ≤ o → (m ≤ 64) × (length room-jobs ≡ 3328) × NarrowJobs jobs m
+  playing-begun h =
+      let p = going-end b list before now cells n jobs m at o (w .going) h in
+      (w .going .holds .jobs-fit, w .setting .jobs-sized, played-narrow b list before now cells n jobs m (w .setting .readable) p)
 
   pub playing-end : (x y : List ℕ) → length list ≤ o → x ≡ savedCells shapes (take n cells) → y ≡ savedJobs (take m jobs)
       → _≡_ {A = Run} (record { refusal = Passed; cellCount = n; jobCount = m; cells = x; jobs = y; answered = now })

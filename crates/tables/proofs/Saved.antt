@@ -5,7 +5,7 @@
 -- Assumes nothing.
 use mathlib.Core.Path.{_≡_, refl, sym, ap, _∙_}
 use mathlib.Core.List.{List, [], _∷_, _++_, map}
-use Prim.Native.Nat.{ℕ, _+_, _*_, _%_, _≤_, _<_}
+use Prim.Native.Nat.{ℕ, _+_, _*_, _≤_, _<_}
 use native.Mathlib.Omega.{arith}
 use lib.ListN.{length, getD, take, drop, length-map, take-append-drop}
 use lib.Seq.{length-take-le}
@@ -15,7 +15,7 @@ use Rattle.acts.specs.declared.Stored.{Stored}
 use Rattle.acts.specs.declared.Cell.{Cell}
 use Rattle.acts.specs.declared.Job.{Job}
 use Rattle.tables.specs.Bytes.{valueBytes, cellBytes, jobBytes, packed, storedRecord, trustedRecord, cellRecordIn, jobRecordOf, cellTable, jobTable, savedCells, savedJobs}
-use Rattle.tables.specs.Asked.{put, cleared}
+use Rattle.tables.specs.Asked.{put, cleared, Narrow, NarrowJobs}
 use Rattle.tables.proofs.Filling.{Filled, filled-start, filled-on, filled-whole, Saving, saving-start, saving-on, saving-end}
 
 pub record RegistersIn (d : List ℕ) (registers : List Stored) (out : List ℕ) (i : ℕ) : Type 0 where
@@ -55,7 +55,7 @@ module _ (d : List ℕ) (registers : List Stored) (out : List ℕ) (i : ℕ) (s 
       }
 
   pub registers-end : (j : Job) → 8 ≤ i → registers ≡ j .registers
-      → take 4 d ≡ j .block % 256 ∷ j .position % 256 ∷ j .label .0 ∷ j .source .0 ∷ [] → out ≡ jobBytes (jobRecordOf j)
+      → take 4 d ≡ j .block ∷ j .position ∷ j .label .0 ∷ j .source .0 ∷ [] → out ≡ jobBytes (jobRecordOf j)
   registers-end j h e q =
       let l : length (take 4 d) ≡ 4 = length-take-le 4 d (omega (arith, s .was)) in
       let w : out ≡ take 4 d ++ packed valueBytes (map storedRecord registers)
@@ -87,18 +87,23 @@ pub ruleset cell-saves = (cells-start, cells-on, cells-end)
 
 pub record JobsIn (jobs : List Job) (n : ℕ) (out : List ℕ) (i : ℕ) : Type 0 where
   pub saving : Saving jobRecordOf jobBytes 52 3328 jobs n out i
+  pub narrow : NarrowJobs jobs n
 
 module _ (jobs : List Job) (n : ℕ) (out : List ℕ) where
-  pub jobs-start : n ≤ 64 → length jobs ≡ 64 → length out ≡ 3328 → JobsIn jobs n out 0
-  jobs-start h e g = record { saving = saving-start jobRecordOf jobBytes 52 3328 jobs n out (omega arith) (omega arith) g }
+  pub jobs-start : n ≤ 64 → length jobs ≡ 64 → length out ≡ 3328 → NarrowJobs jobs n → JobsIn jobs n out 0
+  jobs-start h e g k = record { saving = saving-start jobRecordOf jobBytes 52 3328 jobs n out (omega arith) (omega arith) g; narrow = k }
 
   module _ (i : ℕ) (s : JobsIn jobs n out i) where
+    pub jobs-narrow : (z : Job) → i < n → Narrow (getD jobs i z)
+    jobs-narrow z h = s .narrow .each i z h
+
     pub jobs-on : (z : Job) (b new : List ℕ) → i < n → b ≡ jobBytes (jobRecordOf (getD jobs i z)) → length b ≡ 52 → new ≡ put out (i * 52) b
         → length new ≡ length out → JobsIn jobs n new (i + 1)
-    jobs-on z b new h eb l e g = record { saving = saving-on jobRecordOf jobBytes 52 3328 jobs n out i (s .saving) z b new h eb l e g }
+    jobs-on z b new h eb l e g =
+        record { saving = saving-on jobRecordOf jobBytes 52 3328 jobs n out i (s .saving) z b new h eb l e g; narrow = s .narrow }
 
     pub jobs-end : (new : List ℕ) → n ≤ i → new ≡ cleared out (n * 52) → new ≡ savedJobs (take n jobs)
     unfolding savedJobs jobTable
     jobs-end new h e = saving-end jobRecordOf jobBytes 52 3328 jobs n out i (s .saving) new h e
 
-pub ruleset job-saves = (jobs-start, jobs-on, jobs-end)
+pub ruleset job-saves = (jobs-start, jobs-narrow, jobs-on, jobs-end)

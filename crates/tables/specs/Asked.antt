@@ -1,13 +1,22 @@
--- What the functions inside this crate do to a part of the lent memory. No call that a user makes speaks of it.
---     put         a list from an index on
---     cleared     zeros from an index on
+-- What the functions inside this crate do to a part of the lent memory, and what saving asks of jobs. No call that a user makes speaks of it.
+--     put                    a list from an index on
+--     cleared                zeros from an index on
+--     Narrow, NarrowJobs     a job whose block and position are bytes; the first m of an array
 -- Assumes nothing.
-use Prim.Native.Nat.{ℕ, _+_, _-_}
+use Prim.Native.Nat.{ℕ, _+_, _-_, _<_}
 use mathlib.Core.List.{List, _++_}
-use lib.ListN.{length, take, drop, replicate}
+use lib.ListN.{length, take, drop, replicate, getD}
+use Rattle.acts.specs.declared.Job.{Job}
 
 abbrev pub put : List ℕ → ℕ → List ℕ → List ℕ
 put d at s = take at d ++ s ++ drop (at + length s) d
 
 abbrev pub cleared : List ℕ → ℕ → List ℕ
 cleared d at = take at d ++ replicate (length d - at) 0
+
+pub record Narrow (j : Job) : Type 0 where
+  pub block : j .block < 256
+  pub position : j .position < 256
+
+pub record NarrowJobs (jobs : List Job) (m : ℕ) : Type 0 where
+  pub each : (i : ℕ) (d : Job) → i < m → Narrow (getD jobs i d)

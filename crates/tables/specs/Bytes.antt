@@ -32,9 +32,9 @@ module _ {A : Type 0} (bytes : A → List ℕ) where
   packed (x ∷ xs) = bytes x ++ packed xs
 
 -- "a job record block, position .., label, registers and its own source": 52 bytes, the source before the registers. Block and position are
--- one byte each; both are at most 64.
+-- one byte each, and fit: `JobsFit` of `integrity`.
 abbrev pub jobBytes : JobRecord → List ℕ
-jobBytes j = j .block % 256 ∷ j .position % 256 ∷ j .label .0 ∷ j .source .0 ∷ packed valueBytes (j .registers)
+jobBytes j = j .block ∷ j .position ∷ j .label .0 ∷ j .source .0 ∷ packed valueBytes (j .registers)
 
 -- "Unused table entries are all zero after a run": 64 cells of 9 bytes, 64 jobs of 52
 unfoldable pub cellTable : List CellRecord → List ℕ

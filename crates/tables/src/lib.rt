@@ -9,7 +9,7 @@ ghost use Prim.Native.Nat.{_+_, _≤_};
 ghost use lib.ListN.{length, take};
 ghost use Rattle.machine.specs.Records.{kindOf};
 ghost use Rattle.tables.specs.Bytes.{valueBytes, cellBytes, jobBytes, storedRecord, trustedRecord, jobRecordOf, savedCells, savedJobs};
-ghost use Rattle.tables.specs.Asked.{put, cleared};
+ghost use Rattle.tables.specs.Asked.{put, cleared, Narrow, NarrowJobs};
 
 // Copies src into dst, from index at on.
 fn copy_in(dst: &mut [u8], at: usize, src: &[u8])
@@ -79,11 +79,12 @@ fn cell_bytes(c: Cell, trust: Trust) -> [u8; 9]
 
 // Block, position, label, source, registers.
 fn job_bytes(j: Job) -> [u8; 52]
+    requires { ⌜ Narrow j ⌝ }
     ensures { λ r. ⌜ r ≡ jobBytes (jobRecordOf j) ⌝ }
 {
     let mut out = [0u8; 52];
-    out[0] = (j.block % 256) as u8;
-    out[1] = (j.position % 256) as u8;
+    out[0] = j.block as u8;
+    out[1] = j.position as u8;
     out[2] = j.label.0;
     out[3] = j.source.0;
     let registers = j.registers;
@@ -115,7 +116,7 @@ pub fn save_cells(cells: [Cell; 64], n: usize, shapes: &[u8], out: &mut [u8])
 
 // The first m jobs as a table.
 pub fn save_jobs(jobs: [Job; 64], m: usize, out: &mut [u8])
-    requires { ⌜ (m ≤ 64) × (length (now out) ≡ 3328) ⌝ }
+    requires { ⌜ (m ≤ 64) × (length (now out) ≡ 3328) × NarrowJobs jobs m ⌝ }
     ensures { λ _. ⌜ now (out .exit) ≡ savedJobs (take m jobs) ⌝ }
 {
     let mut i: usize = 0;

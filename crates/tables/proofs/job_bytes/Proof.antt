@@ -1,7 +1,7 @@
 -- `job_bytes` meets its contract. Assumes nothing.
 use Prim.Native.Nat.{_-_}
 use borrow.Author.Needs.{needs}
-use Rattle.tables.proofs.Saved.{RegistersIn, register-saves}
+use Rattle.tables.proofs.Saved.{RegistersIn, registers-on, register-saves}
 use Rattle.tables.proofs.job_bytes.Tie as tie
 use Rattle.tables.proofs.job_bytes.Statement.{statement}
 
@@ -63,7 +63,9 @@ loop-less : tie.Need-loop-less Inv-loop μ-loop
 loop-less c = search needs
 
 loop-again : tie.Need-loop-again Inv-loop μ-loop
-loop-again c = search register-saves
+loop-again c =
+    registers-on _ _ _ _ (c .before .before .before .before .before .before .before .loop .inv) _ _ _ (c .before .before .before .before .before .before .loop-test .taken)
+    (c .before .before .before .before .value-bytes .ensures) (c .before .copy-in .ensures) (search needs)
 
 returns : tie.Need-returns Inv-loop μ-loop
 returns c = search register-saves

@@ -21,7 +21,7 @@ array-copy-out-j : tie.Need-array-copy-out-j Inv-loop μ-loop
 array-copy-out-j c = search needs
 
 job-bytes-requires : tie.Need-job-bytes-requires Inv-loop μ-loop
-job-bytes-requires c κs = search needs
+job-bytes-requires c κs = search job-saves
 
 mul-copy-in : tie.Need-mul-copy-in Inv-loop μ-loop
 mul-copy-in c = search needs

@@ -160,7 +160,7 @@ save-cells-requires : tie.Need-save-cells-requires Inv-loop μ-loop
 save-cells-requires c κs = playing-sized _ _ _ _ _ _ _ _ _ _ _ _ _ _ _ _ (c .before .before .loop .inv)
 
 save-jobs-requires : tie.Need-save-jobs-requires Inv-loop μ-loop
-save-jobs-requires c κs = playing-begun _ _ _ _ _ _ _ _ _ _ _ _ _ _ _ _ (c .before .before .before .before .before .before .loop .inv)
+save-jobs-requires c κs = playing-begun _ _ _ _ _ _ _ _ _ _ _ _ _ _ _ _ (c .before .before .before .before .before .before .loop .inv) (c .before .before .before .before .before .loop-test .left)
 
 same-length : tie.Need-same-length Inv-loop μ-loop
 same-length c = search needs
