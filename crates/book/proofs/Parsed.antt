@@ -25,12 +25,12 @@ use Rattle.book.proofs.Stages.{few-steps, one-step}
 use Rattle.book.proofs.Limits.{most-blocks}
 use Rattle.book.proofs.Readable.{pass-whole, Readable, readable}
 
--- "64 steps in a block", each of which names what exists
+-- refusals 4 and 6 of a block: at most 64 steps, each of which names what exists
 pub record SoundBlock (K : Book) (b : Block) : Type 0 where
   pub few : length (b .steps) ≤ 64
   pub named : All (λ p. stepNamed (hasCellShape K) (length (K .cells)) (length (K .blocks)) p ≡ true) (b .steps)
 
--- "no block stands", "64 blocks", and what declared cells name
+-- refusals 3, 4 and 6 of a book: a block stands, at most 64 do, and declared cells name what exists
 pub record Sound (K : Book) : Type 0 where
   pub some-block : 0 < length (K .blocks)
   pub few : length (K .blocks) ≤ 64
@@ -38,7 +38,7 @@ pub record Sound (K : Book) : Type 0 where
   pub blocks : All (SoundBlock K) (K .blocks)
 
 module _ (s : List ℕ) where
-  -- 3: before the first block stands no step
+  -- 3: a record in order that is no block, where no block stands before it, is no step
   later : (p g : ℕ) → (p ≡ 4 → ⊥) → (g ≡ 4 → ⊥) → g ≤ 5 → inOrder p g ≡ true → min g 4 ≡ 4 → ⊥
   unfolding inOrder
   later p g n d l r z =
@@ -50,7 +50,7 @@ module _ (s : List ℕ) where
       go false q true t x = n (eqb-true _ _ t)
       go false q false t x = clash (simp (q, t) at x) refl
 
-  -- and so a block stands
+  -- so where the records end in order, a block stands
   last-block : (os : List ℕ) (p : ℕ) → (p ≡ 4 → ⊥) → misplaced s p os ≡ Nowhere → 0 < length (those (inGroup s 4) os)
   unfolding misplaced sweep those
   last-block [] p n e = somewhere (simp (ne-eqb _ _ n) at e)
