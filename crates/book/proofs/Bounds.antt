@@ -1,8 +1,10 @@
 -- How large a book's numbers are: no place is past its end, and it has no more records than bytes.
 --     Below, Placed               the members of a list, the place of a fault: at most a number
 --     sweep-placed, sweep-clean   a stage is at fault at a record, or where its end is
+--     offsets-below, few-offsets  records by any span
 --     group-below, steps-below    the records of a group, the steps of a block
 --     steps-short                 how many steps the blocks have
+--     stage, none-refused         the place of a refusal by one stage, where that of the stages after it is told
 --     refused-short               the place of a refusal by 1 to 6
 --     found-place, found-short    the place of a refusal by 1 to 6 or 12; a block's stretch
 -- Assumes nothing.
@@ -20,7 +22,9 @@ use Rattle.book.specs.declared.Refusal.{Refusal}
 use Rattle.book.specs.declared.Refusal.the-variants.{Passed, Refused}
 use Rattle.book.specs.declared.Found.{Found}
 use Rattle.book.specs.Control.{if_then_else_, those, while, sweep}
-use Rattle.book.specs.Records.{next, cut, recordsIn, recordsFrom, inGroup}
+use Rattle.book.specs.Kinds.{span}
+use Rattle.book.specs.Spans.{nextBy, cutBy, offsetsIn, offsetsBy}
+use Rattle.book.specs.Records.{recordsFrom, inGroup}
 use Rattle.book.specs.Book.{groupOf, blocksOf, stepsFrom}
 use Rattle.book.specs.Refusals.{cutFault, orderFault, misplaced, countFault, beyond, rangeFault, nameFault, dangles, orRefuse, unreadable}
 use Rattle.book.specs.Outline.{stepCount}
@@ -86,34 +90,44 @@ pub sweep-clean : {S : Type 0} (bad : S → ℕ → Bool) (on : S → ℕ → S)
     → Placed l (sweep bad on (λ u. Nowhere) t os)
 sweep-clean bad on l r t = sweep-placed bad on (λ u. Nowhere) l (λ u. nowhere-placed l) r t
 
-module _ (s : List ℕ) where
-  in-below : (n o : ℕ) → Below (length s) (recordsIn n s o)
-  unfolding recordsIn
+-- of records by any span
+module _ (span : ℕ → ℕ) (s : List ℕ) where
+  in-below : (n o : ℕ) → Below (length s) (offsetsIn span n s o)
+  unfolding offsetsIn
   in-below zero o = none
-  in-below (suc n) o = go (ltb o (length s)) refl (cut s o) refl (in-below n (next s o))
+  in-below (suc n) o = go (ltb o (length s)) refl (cutBy span s o) refl (in-below n (nextBy span s o))
     where
-      go : (b : Bool) → ltb o (length s) ≡ b → (d : Bool) → cut s o ≡ d → Below (length s) (recordsIn n s (next s o)) → Below (length s) (recordsIn (suc n) s o)
-      go false p d q i = simp (recordsIn, p) none
-      go true p true q i = let h : o ≤ length s = omega (arith, ltb-true o (length s) p) in simp (recordsIn, p, q) (more h none)
-      go true p false q i = let h : o ≤ length s = omega (arith, ltb-true o (length s) p) in simp (recordsIn, p, q) (more h i)
+      go : (b : Bool) → ltb o (length s) ≡ b → (d : Bool) → cutBy span s o ≡ d → Below (length s) (offsetsIn span n s (nextBy span s o))
+          → Below (length s) (offsetsIn span (suc n) s o)
+      go false p d q i = simp (offsetsIn, p) none
+      go true p true q i = let h : o ≤ length s = omega (arith, ltb-true o (length s) p) in simp (offsetsIn, p, q) (more h none)
+      go true p false q i = let h : o ≤ length s = omega (arith, ltb-true o (length s) p) in simp (offsetsIn, p, q) (more h i)
 
-  pub records-below : (o : ℕ) → Below (length s) (recordsFrom s o)
-  unfolding recordsFrom
-  records-below o = in-below (length s) o
+  pub offsets-below : (o : ℕ) → Below (length s) (offsetsBy span s o)
+  unfolding offsetsBy
+  offsets-below o = in-below (length s) o
 
-  in-few : (n o : ℕ) → length (recordsIn n s o) ≤ n
-  unfolding recordsIn
+  in-few : (n o : ℕ) → length (offsetsIn span n s o) ≤ n
+  unfolding offsetsIn
   in-few zero o = omega arith
-  in-few (suc n) o = go (ltb o (length s)) refl (cut s o) refl (in-few n (next s o))
+  in-few (suc n) o = go (ltb o (length s)) refl (cutBy span s o) refl (in-few n (nextBy span s o))
     where
-      go : (b : Bool) → ltb o (length s) ≡ b → (d : Bool) → cut s o ≡ d → length (recordsIn n s (next s o)) ≤ n → length (recordsIn (suc n) s o) ≤ suc n
-      go false p d q i = simp (recordsIn, p) (omega arith)
-      go true p true q i = simp (recordsIn, p, q) (omega arith)
-      go true p false q i = simp (recordsIn, p, q) (omega arith)
+      go : (b : Bool) → ltb o (length s) ≡ b → (d : Bool) → cutBy span s o ≡ d → length (offsetsIn span n s (nextBy span s o)) ≤ n
+          → length (offsetsIn span (suc n) s o) ≤ suc n
+      go false p d q i = simp (offsetsIn, p) (omega arith)
+      go true p true q i = simp (offsetsIn, p, q) (omega arith)
+      go true p false q i = simp (offsetsIn, p, q) (omega arith)
+
+  pub few-offsets : (o : ℕ) → length (offsetsBy span s o) ≤ length s
+  unfolding offsetsBy
+  few-offsets o = in-few (length s) o
+
+module _ (s : List ℕ) where
+  pub records-below : (o : ℕ) → Below (length s) (recordsFrom s o)
+  records-below o = offsets-below span s o
 
   pub few-records : (o : ℕ) → length (recordsFrom s o) ≤ length s
-  unfolding recordsFrom
-  few-records o = in-few (length s) o
+  few-records o = few-offsets span s o
 
   pub group-below : (g : ℕ) → Below (length s) (groupOf s g)
   unfolding groupOf
@@ -131,6 +145,15 @@ module _ (s : List ℕ) where
   unfolding stepCount
   steps-short h [] = omega arith
   steps-short h (o ∷ os) = let r = steps-short h os in let k = few-steps (o + 2) in omega arith
+
+-- a refusal is at most at l
+pub stage : (l m : ℕ) (f : Fault) (r : Refusal) → Placed l f → ((n o : ℕ) → r ≡ Refused n o → o ≤ l) → (n o : ℕ) → orRefuse m f r ≡ Refused n o → o ≤ l
+unfolding orRefuse
+stage l m Nowhere r p q n o e = q n o e
+stage l m (At k) r p q n o e = let z : k ≡ o = cc in let h = p k refl in omega arith
+
+pub none-refused : (l n o : ℕ) → Passed ≡ Refused n o → o ≤ l
+none-refused l n o e = let z : _≡_ {A = ℕ} 0 1 = cc in absurd (omega arith)
 
 -- refusals 1 to 6
 module _ (s : List ℕ) where
@@ -157,15 +180,6 @@ module _ (s : List ℕ) where
   name-placed : Placed (length s) (nameFault s)
   unfolding nameFault dangles
   name-placed = sweep-clean _ _ (length s) (records-below s 0) 0
-
-  -- a refusal is at most at l
-  stage : (l m : ℕ) (f : Fault) (r : Refusal) → Placed l f → ((n o : ℕ) → r ≡ Refused n o → o ≤ l) → (n o : ℕ) → orRefuse m f r ≡ Refused n o → o ≤ l
-  unfolding orRefuse
-  stage l m Nowhere r p q n o e = q n o e
-  stage l m (At k) r p q n o e = let z : k ≡ o = cc in let h = p k refl in omega arith
-
-  none-refused : (l n o : ℕ) → Passed ≡ Refused n o → o ≤ l
-  none-refused l n o e = let z : _≡_ {A = ℕ} 0 1 = cc in absurd (omega arith)
 
   pub refused-short : (n o : ℕ) → unreadable s ≡ Refused n o → o ≤ 32768
   unfolding unreadable

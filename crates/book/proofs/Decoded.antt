@@ -22,13 +22,12 @@ use Rattle.book.specs.declared.Step.the-variants.{Put, Name, Code, Add, 
 use Rattle.book.specs.declared.StepAt.{StepAt}
 use Rattle.book.specs.declared.StepAt.the-variants.{NoStep, StepThere}
 use Rattle.book.specs.declared.CellAt.the-variants.{NoCell, CellThere}
-use Rattle.book.specs.Control.{both, either}
+use Rattle.book.specs.Control.{both}
 use Rattle.book.specs.Kinds.{span, group}
 use Rattle.book.specs.Records.{byteAt, numberAt, next, cut, inGroup}
 use Rattle.book.specs.Book.{shapeAt, valueOf, declaredAt, stepAt}
 use Rattle.book.specs.Stretch.{stands, stepFound, cellFound}
-use Rattle.book.proofs.Tests.{either-true}
-use Rattle.book.proofs.Records.{uncut-span, uncut-inside}
+use Rattle.book.proofs.Spans.{cut-body, uncut, uncut-span, uncut-inside}
 
 module _ (s : List ℕ) (o : ℕ) where
   pub is-code-shape : (x : ℕ) → x ≡ byteAt s (o + 1) → byteAt s o ≡ 17
@@ -158,19 +157,13 @@ module _ (s : List ℕ) (g o : ℕ) where
 
     module _ (p : ℕ) (e : d ≡ g) (q : p ≡ next s o) where
       stands-short : length s < p → stands s g o ≡ false
-      unfolding both cut
-      stands-short l = simp (lt-ltb _ _ h, ← ed, eq-eqb _ _ e, lt-ltb (length s) (next s o) (omega arith), either-true)
+      unfolding both
+      stands-short l = simp (lt-ltb _ _ h, ← ed, eq-eqb _ _ e, cut-body span s o (omega arith))
 
       stands-whole : byteAt s o < 256 → 0 < g → p ≤ length s → stands s g o ≡ true
-      unfolding both cut either
+      unfolding both
       stands-whole b n l =
-          simp (
-            lt-ltb _ _ h,
-            ← ed,
-            eq-eqb _ _ e,
-            ne-eqb _ _ (group-span (byteAt s o) g b (sym ed ∙ e) n),
-            le-ltb (length s) (next s o) (omega arith),
-          )
+          simp (lt-ltb _ _ h, ← ed, eq-eqb _ _ e, uncut span s o (group-span (byteAt s o) g b (sym ed ∙ e) n) (omega arith))
 
 module _ (s : List ℕ) (o : ℕ) where
   no-step : stands s 5 o ≡ false → NoStep ≡ stepFound s o
@@ -221,7 +214,7 @@ found-next s o n p x ex e = go (ltb o (length s)) refl (inGroup s 5 o) refl (cut
     go true h true g false q =
         let y : StepThere (stepAt s o) (next s o) ≡ StepThere p n = sym (simp (h, g, q) at ex) ∙ e in
         let z : next s o ≡ n = cc in
-        (omega (arith, uncut-span s o q), omega (arith, uncut-inside s o q))
+        (omega (arith, uncut-span span s o q), omega (arith, uncut-inside span s o q))
     go true h true g true q = let y : NoStep ≡ StepThere p n = sym (simp (h, g, q) at ex) ∙ e in let z : _≡_ {A = ℕ} 0 1 = cc in absurd (omega arith)
     go true h false g c q = let y : NoStep ≡ StepThere p n = sym (simp (h, g) at ex) ∙ e in let z : _≡_ {A = ℕ} 0 1 = cc in absurd (omega arith)
     go false h b g c q = let y : NoStep ≡ StepThere p n = sym (simp h at ex) ∙ e in let z : _≡_ {A = ℕ} 0 1 = cc in absurd (omega arith)

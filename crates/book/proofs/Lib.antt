@@ -4,6 +4,7 @@ pub mod Lists
 pub mod Every
 pub mod Between
 pub mod Groups
+pub mod Spans
 pub mod Records
 pub mod Steps
 pub mod Sweep

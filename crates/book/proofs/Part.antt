@@ -10,14 +10,15 @@ use native.Mathlib.Omega.{arith}
 use lib.Dec.{eqb, ltb}
 use lib.ListN.{length, take, drop, length-take, length-drop}
 use lib.Seq.{getD-take, getD-drop}
-use borrow.Author.Tests.{eqb-true, eqb-false, ltb-true, ltb-false, ne-eqb, le-ltb}
-use Rattle.book.specs.Control.{either, sweep}
+use borrow.Author.Tests.{eqb-true, eqb-false, ltb-true, ltb-false}
+use Rattle.book.specs.Control.{sweep}
 use Rattle.book.specs.Kinds.{span, group}
 use Rattle.book.specs.Records.{byteAt, numberAt, next, cut}
 use Rattle.book.specs.Book.{stepAt, stepsFrom}
 use Rattle.book.specs.Outline.{stepsEnd}
 use Rattle.book.specs.Asked.{Whole}
 use Rattle.book.proofs.Groups.{is-step}
+use Rattle.book.proofs.Spans.{uncut}
 use Rattle.book.proofs.Records.{records-end, records-more, walk}
 use Rattle.book.proofs.Steps.{steps-end, steps-none, steps-more, end-more, end-none}
 use Rattle.book.proofs.Past.{past-steps}
@@ -118,9 +119,8 @@ module _ (s : List ℕ) (a e : ℕ) (h : e ≤ length s) where
   w-byte : (i : ℕ) → a + i < e → byteAt w i ≡ byteAt s (a + i)
   w-byte i l = getD-take (e - a) (drop a s) i 0 (omega arith) ∙ getD-drop a s i 0
 
-  uncut : (x : ℕ) → a ≤ e → 0 < span (byteAt w x) → a + next w x ≤ e → cut w x ≡ false
-  unfolding cut either
-  uncut x l p q = simp (ne-eqb (span (byteAt w x)) 0 (λ z. omega arith), le-ltb (length w) (next w x) (omega (arith, w-length l)))
+  w-uncut : (x : ℕ) → a ≤ e → 0 < span (byteAt w x) → a + next w x ≤ e → cut w x ≡ false
+  w-uncut x l p q = uncut span w x (λ z. omega arith) (omega (arith, w-length l))
 
   ended : (x : ℕ) → a + x ≡ e → stepsFrom s (a + x) ≡ [] → Parted s w a x
   unfolding sweep
@@ -156,7 +156,7 @@ module _ (s : List ℕ) (a e : ℕ) (h : e ≤ length s) where
           = λ j q. w-byte (x + j) (omega arith) ∙ ap (byteAt s) (omega arith) in
           let j : span (byteAt w x) ≡ span (byteAt s o) = ap span z in
           let fits : a + next w x ≡ next s o = omega arith in
-          let un = uncut x (omega arith) (omega (arith, k .spanned)) (omega arith) in
+          let un = w-uncut x (omega arith) (omega (arith, k .spanned)) (omega arith) in
           let lw = w-length (omega arith) in
           let list = records-more w x (omega (arith, k .spanned)) un in
           let d : stepsFrom s (next s o) ≡ ps = cc in

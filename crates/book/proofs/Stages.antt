@@ -12,13 +12,14 @@ use borrow.Author.Tests.{lt-ltb, le-ltb, eq-eqb, ne-eqb, ltb-false}
 use Rattle.book.specs.declared.Fault.{Fault}
 use Rattle.book.specs.declared.Fault.the-variants.{Nowhere, At}
 use Rattle.book.specs.declared.Tally.{Tally}
-use Rattle.book.specs.Control.{both, either, sweep, first}
+use Rattle.book.specs.Control.{both, either, first}
 use Rattle.book.specs.Kinds.{span, group}
 use Rattle.book.specs.Records.{byteAt, next, cut, recordsFrom}
 use Rattle.book.specs.Refusals.{cutFault, inOrder, misplaced, orderFault, none, counted, tooMany, beyond, countFault, outOfRange, rangeFault}
 use Rattle.book.specs.Asked.{Whole}
-use Rattle.book.proofs.Tests.{either-left, either-right, either-true}
-use Rattle.book.proofs.Records.{records-end, records-cut, records-more, walk}
+use Rattle.book.proofs.Tests.{either-left, either-right}
+use Rattle.book.proofs.Spans.{cut-kind, cut-body, uncut, fault-end, fault-cut, fault-more}
+use Rattle.book.proofs.Records.{walk}
 use Rattle.book.proofs.Sweep.{sweep-end, sweep-bad, sweep-on}
 
 -- 2
@@ -28,26 +29,16 @@ cut-start s = refl
 
 module _ (s : List ℕ) (o p : ℕ) (z : Fault) (q : p ≡ next s o) (h : o < length s) (inv : first (cut s) (recordsFrom s o) ≡ z) where
   pub cut-none : p ≡ o → At o ≡ z
-  unfolding sweep cut either
-  cut-none e =
-      let c : cut s o ≡ true = simp (eq-eqb (span (byteAt s o)) 0 (omega arith)) in
-      simp (records-cut s o h c, sweep, c) at inv
+  cut-none e = fault-cut span s o z inv h (cut-kind span s o (omega arith))
 
   pub cut-short : length s < p → At o ≡ z
-  unfolding sweep cut
-  cut-short l =
-      let c : cut s o ≡ true = simp (lt-ltb (length s) (next s o) (omega arith), either-true) in
-      simp (records-cut s o h c, sweep, c) at inv
+  cut-short l = fault-cut span s o z inv h (cut-body span s o (omega arith))
 
   pub cut-on : (p ≡ o → ⊥) → p ≤ length s → first (cut s) (recordsFrom s p) ≡ z
-  unfolding sweep cut either
-  cut-on n l =
-      let c : cut s o ≡ false = simp (ne-eqb (span (byteAt s o)) 0 (λ e. n (omega arith)), le-ltb (length s) (next s o) (omega arith)) in
-      rw q (simp (records-more s o h c, sweep, c) at inv)
+  cut-on n l = rw q (fault-more span s o z inv h (uncut span s o (λ e. n (omega arith)) (omega arith)))
 
 pub cut-end : (s : List ℕ) (o : ℕ) (z : Fault) → first (cut s) (recordsFrom s o) ≡ z → length s ≤ o → Nowhere ≡ z
-unfolding sweep
-cut-end s o z inv h = simp (records-end s o h) at inv
+cut-end s o z inv h = fault-end span s o z inv h
 
 pub ruleset cuts = (cut-start, cut-none, cut-short, cut-on, cut-end)
 

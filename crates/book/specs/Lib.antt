@@ -1,5 +1,6 @@
 pub mod Control
 pub mod Kinds
+pub mod Spans
 pub mod Records
 pub mod Book
 pub mod Refusals

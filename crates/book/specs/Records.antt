@@ -5,44 +5,34 @@
 --     recordsFrom, records     the records from an offset on, up to one that refusal 2 holds of
 --     inGroup                  the group of a record
 -- Assumes nothing.
-use Prim.Native.Nat.{ℕ, zero, suc, _+_, _*_}
-use mathlib.Core.Bool.{Bool, true, false}
-use mathlib.Core.List.{List, [], _∷_}
-use lib.ListN.{length, getD}
-use lib.Dec.{ltb, eqb}
+use Prim.Native.Nat.{ℕ, _+_, _*_}
+use mathlib.Core.Bool.{Bool}
+use mathlib.Core.List.{List}
+use lib.Dec.{eqb}
 use denote.Ref.{RefT}
 use Rattle.book.specs.declared.reader.Reader.{Reader}
-use Rattle.book.specs.Control.{either}
 use Rattle.book.specs.Kinds.{span, group}
-
--- a byte of the book; 0 past its end
-abbrev pub byteAt : List ℕ → ℕ → ℕ
-byteAt s i = getD s i 0
+use Rattle.book.specs.Spans.{nextBy, cutBy, offsetsBy}
+pub use Rattle.book.specs.Spans.{byteAt}
 
 -- "a number is 4 bytes, little-endian"
 unfoldable pub numberAt : List ℕ → ℕ → ℕ
 numberAt s o = byteAt s o + 256 * byteAt s (o + 1) + 65536 * byteAt s (o + 2) + 16777216 * byteAt s (o + 3)
 
 abbrev pub next : List ℕ → ℕ → ℕ
-next s o = o + span (byteAt s o)
+next s o = nextBy span s o
 
 -- "read record by record from its first byte": what a reader of the lent book b holds at the offset o; it begins at 0
 abbrev pub readerAt : RefT (List ℕ) → ℕ → Reader
 readerAt b o = record { book = b; at = o }
 
 -- refusal 2: "A kind is none of the above, or the book ends inside a body."
-unfoldable pub cut : List ℕ → ℕ → Bool
-cut s o = either (eqb (span (byteAt s o)) 0) (ltb (length s) (next s o))
+abbrev pub cut : List ℕ → ℕ → Bool
+cut s o = cutBy span s o
 
--- at most n records
-unfoldable pub recordsIn : ℕ → List ℕ → ℕ → List ℕ
-recordsIn zero s o = []
-recordsIn (suc n) s o =
-    elim (ltb o (length s)) [ false ↦ [] | true ↦ elim (cut s o) [ true ↦ o ∷ [] | false ↦ o ∷ recordsIn n s (next s o) ] ]
-
--- a book has no more records than bytes
-unfoldable pub recordsFrom : List ℕ → ℕ → List ℕ
-recordsFrom s o = recordsIn (length s) s o
+-- "record by record", from o on
+abbrev pub recordsFrom : List ℕ → ℕ → List ℕ
+recordsFrom s o = offsetsBy span s o
 
 abbrev pub records : List ℕ → List ℕ
 records s = recordsFrom s 0

@@ -8,7 +8,8 @@ use mathlib.Core.List.{List, [], _∷_, _++_}
 use Rattle.labels.specs.Labels.{label, lower, normal, capped}
 use Rattle.book.specs.Control.{both, either, those, while, sweep}
 use Rattle.book.specs.Kinds.{span, limits, group}
-use Rattle.book.specs.Records.{numberAt, cut, recordsIn, recordsFrom}
+use Rattle.book.specs.Spans.{cutBy, offsetsIn, offsetsBy}
+use Rattle.book.specs.Records.{numberAt}
 use Rattle.book.specs.Book.{groupOf, stepsFrom, shapeAt, valueOf, declaredAt, stepAt, blockAt, parse}
 use Rattle.book.specs.Refusals.{cutFault, inOrder, misplaced, orderFault, counted, tooMany, beyond, countFault, above, outOfRange, rangeFault, valueNamed, cellNamed, stepNamed, dangling, dangles, nameFault, orRefuse, unreadable}
 use Rattle.book.specs.Outline.{stepCount}
@@ -89,7 +90,7 @@ steps zero i es = es
 steps (suc n) i es = StepOf i ∷ steps n i es
 
 pub each-needed : EachNeeded
-unfolding lower normal capped both either valueOf valueNamed viewOf onSome alikeIn alike knownOf fits knownValue declaredOk need free R.onCell R.onCode isPlainly fresh known R.lowering addable holds lowStep highStep step given onPlain onCell onCode execLabel writing relabelling making starting executing sum adding reading lowering turnOf landed turnLanded outcomeOf stateAfter stepBy walkBy every acceptedBy anyBound alikeAnyTrust anyTrust cellHolds jobHolds sentencesHold those while sweep span limits group numberAt cut recordsIn recordsFrom groupOf stepsFrom shapeAt declaredAt stepAt blockAt parse cutFault inOrder misplaced orderFault counted tooMany beyond countFault above outOfRange rangeFault cellNamed stepNamed dangling dangles nameFault orRefuse unreadable stepCount fault cellFault orThen blockFault stepFault orRefused typed verdictOf
+unfolding lower normal capped both either valueOf valueNamed viewOf onSome alikeIn alike knownOf fits knownValue declaredOk need free R.onCell R.onCode isPlainly fresh known R.lowering addable holds lowStep highStep step given onPlain onCell onCode execLabel writing relabelling making starting executing sum adding reading lowering turnOf landed turnLanded outcomeOf stateAfter stepBy walkBy every acceptedBy anyBound alikeAnyTrust anyTrust cellHolds jobHolds sentencesHold those while sweep span limits group numberAt cutBy offsetsIn offsetsBy groupOf stepsFrom shapeAt declaredAt stepAt blockAt parse cutFault inOrder misplaced orderFault counted tooMany beyond countFault above outOfRange rangeFault cellNamed stepNamed dangling dangles nameFault orRefuse unreadable stepCount fault cellFault orThen blockFault stepFault orRefused typed verdictOf
 each-needed =
     record {
       -- An outsider writes block 1's code into cell 0. Job 0, at 12, copies it into cell 1, of low trust and label 12, and runs that: a job

@@ -4,7 +4,8 @@ use mathlib.Core.Path.{refl}
 use Rattle.labels.specs.Labels.{lower}
 use Rattle.book.specs.Control.{both, those, while}
 use Rattle.book.specs.Kinds.{span, limits, group}
-use Rattle.book.specs.Records.{numberAt, cut, recordsIn, recordsFrom}
+use Rattle.book.specs.Spans.{cutBy, offsetsIn, offsetsBy}
+use Rattle.book.specs.Records.{numberAt}
 use Rattle.book.specs.Control.{either}
 use Rattle.book.specs.Book.{groupOf, stepsFrom, shapeAt, valueOf, declaredAt, stepAt, blockAt, parse}
 use Rattle.book.specs.Refusals.{valueNamed}
@@ -16,7 +17,7 @@ use Rattle.machine.specs.Events.{landed, turnLanded, outcomeOf, stateAft
 use Rattle.machine.specs.Samples.{SampleRuns, HistoryRun}
 
 pub sample-runs : SampleRuns
-unfolding lower both either those while span limits group numberAt cut recordsIn recordsFrom groupOf stepsFrom shapeAt valueOf declaredAt stepAt blockAt parse valueNamed onSome given onPlain onCell onCode execLabel writing relabelling making starting executing sum adding reading lowering turnOf landed turnLanded outcomeOf stateAfter answers
+unfolding lower both either those while span limits group numberAt cutBy offsetsIn offsetsBy groupOf stepsFrom shapeAt valueOf declaredAt stepAt blockAt parse valueNamed onSome given onPlain onCell onCode execLabel writing relabelling making starting executing sum adding reading lowering turnOf landed turnLanded outcomeOf stateAfter answers
 sample-runs =
     record {
       high-answers = refl;
@@ -28,5 +29,5 @@ sample-runs =
     }
 
 pub history-run : HistoryRun
-unfolding lower both either those while span limits group numberAt cut recordsIn recordsFrom groupOf stepsFrom shapeAt valueOf declaredAt stepAt blockAt parse valueNamed onSome given onPlain onCell onCode execLabel writing relabelling making starting executing sum adding reading lowering turnOf landed turnLanded outcomeOf stateAfter answers
+unfolding lower both either those while span limits group numberAt cutBy offsetsIn offsetsBy groupOf stepsFrom shapeAt valueOf declaredAt stepAt blockAt parse valueNamed onSome given onPlain onCell onCode execLabel writing relabelling making starting executing sum adding reading lowering turnOf landed turnLanded outcomeOf stateAfter answers
 history-run = record { cells = refl; jobs = refl }

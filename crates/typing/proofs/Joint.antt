@@ -4,7 +4,8 @@ use mathlib.Core.Path.{refl}
 use Rattle.labels.specs.Labels.{lower, normal, capped}
 use Rattle.book.specs.Control.{both, either, those, while, sweep}
 use Rattle.book.specs.Kinds.{span, limits, group}
-use Rattle.book.specs.Records.{numberAt, cut, recordsIn, recordsFrom}
+use Rattle.book.specs.Spans.{cutBy, offsetsIn, offsetsBy}
+use Rattle.book.specs.Records.{numberAt}
 use Rattle.book.specs.Book.{groupOf, stepsFrom, shapeAt, valueOf, declaredAt, stepAt, blockAt, parse}
 use Rattle.book.specs.Refusals.{cutFault, inOrder, misplaced, orderFault, counted, tooMany, beyond, countFault, above, outOfRange, rangeFault, valueNamed, cellNamed, stepNamed, dangling, dangles, nameFault, orRefuse, unreadable}
 use Rattle.book.specs.Outline.{stepCount}
@@ -14,7 +15,7 @@ use Rattle.typing.specs.Verdict.{cellFault, orThen, blockFault, stepFaul
 use Rattle.typing.specs.Samples.{Samples}
 
 pub samples : Samples
-unfolding lower normal capped both either those while sweep span limits group numberAt cut recordsIn recordsFrom groupOf stepsFrom shapeAt valueOf declaredAt stepAt blockAt parse cutFault inOrder misplaced orderFault counted tooMany beyond countFault above outOfRange rangeFault valueNamed cellNamed stepNamed dangling dangles nameFault orRefuse unreadable stepCount viewOf onSome alikeIn alike knownOf fits knownValue declaredOk need free onCell onCode isPlainly fresh known lowering addable holds lowStep highStep step fault cellFault orThen blockFault stepFault orRefused typed verdictOf
+unfolding lower normal capped both either those while sweep span limits group numberAt cutBy offsetsIn offsetsBy groupOf stepsFrom shapeAt valueOf declaredAt stepAt blockAt parse cutFault inOrder misplaced orderFault counted tooMany beyond countFault above outOfRange rangeFault valueNamed cellNamed stepNamed dangling dangles nameFault orRefuse unreadable stepCount viewOf onSome alikeIn alike knownOf fits knownValue declaredOk need free onCell onCode isPlainly fresh known lowering addable holds lowStep highStep step fault cellFault orThen blockFault stepFault orRefused typed verdictOf
 samples =
     record {
       a1 = refl;
