@@ -8,18 +8,17 @@ use mathlib.Core.List.{List}
 use Prim.Native.Nat.{ℕ, _+_, _-_, _≤_, _<_}
 use native.Mathlib.Omega.{arith}
 use lib.ListN.{length, length-map}
-use borrow.Author.Tests.{lt-ltb, le-ltb, eq-eqb, ne-eqb}
+use borrow.Author.Tests.{lt-ltb, le-ltb, ne-eqb}
 use Rattle.labels.specs.Labels.{label}
 use Rattle.book.specs.declared.Fault.the-variants.{Nowhere, At}
 use Rattle.book.specs.declared.Refusal.the-variants.{Passed}
-use Rattle.book.specs.Control.{either, first, sweep}
+use Rattle.book.specs.Control.{first}
 use Rattle.book.specs.Records.{byteAt, numberAt}
 use Rattle.book.specs.Refusals.{orRefuse}
-use Rattle.book.proofs.Tests.{either-true}
+use Rattle.book.proofs.Spans as by
 use Rattle.machine.specs.declared.Event.the-variants.{StepOf, WriteBy, RelabelBy, NewBy, ExecBy, StartBy}
 use Rattle.events.specs.declared.Scanned.{Scanned}
 use Rattle.events.specs.Bytes.{span, next, cut, offsetsFrom, eventAt, eventsFrom, eventFault, unplayable, refusedScan, scanOf, scanned}
-use Rattle.events.proofs.Walks.{uncut-span, uncut-inside, offsets-end, offsets-cut, offsets-more}
 
 -- the bytes of each kind
 module _ (k : ℕ) where
@@ -88,16 +87,13 @@ pub ruleset says = (is-step, is-write, is-relabel, is-new, is-exec, is-start)
 -- w is the bytes of the event at o
 module _ (l : List ℕ) (o w : ℕ) (q : w ≡ span (byteAt l o)) (h : o < length l) where
   pub cut-kind : w ≡ 0 → true ≡ cut l o
-  unfolding cut either
-  cut-kind e = simp (← q, eq-eqb _ _ e)
+  cut-kind e = sym (by.cut-kind span l o (sym q ∙ e))
 
   pub cut-body : length l - o < w → true ≡ cut l o
-  unfolding cut
-  cut-body e = simp (← q, lt-ltb (length l) (o + w) (omega arith), either-true)
+  cut-body e = sym (by.cut-body span l o (omega arith))
 
   pub cut-not : (w ≡ 0 → ⊥) → w ≤ length l - o → false ≡ cut l o
-  unfolding cut either
-  cut-not e b = simp (← q, ne-eqb _ _ e, le-ltb (length l) (o + w) (omega arith))
+  cut-not e b = sym (by.uncut span l o (λ z. e (q ∙ z)) (omega arith))
 
 pub ruleset cuts = (cut-kind, cut-body, cut-not)
 
@@ -121,33 +117,32 @@ scan-start l h =
 module _ (l : List ℕ) (o n : ℕ) (k : Scanning l o n) where
   module _ (b : Bool) (eb : b ≡ cut l o) (h : o < length l) where
     pub scan-bad : (r : Scanned) → b ≡ true → r ≡ refusedScan 9 o → r ≡ scanned l
-    unfolding unplayable scanOf sweep orRefuse
+    unfolding unplayable scanOf orRefuse
     scan-bad r e x =
-        let f : At o ≡ eventFault l = simp (offsets-cut l o h (sym eb ∙ e), sweep, ← eb, e) at (k .fault) in
+        let f : At o ≡ eventFault l = by.fault-cut span l o (eventFault l) (k .fault) h (sym eb ∙ e) in
         x ∙ simp (le-ltb _ _ (k .short), ← f)
 
     pub scan-on : (p : ℕ) → b ≡ false → p ≡ next l o → Scanning l p (n + 1)
-    unfolding sweep
     scan-on p e q =
         let c : cut l o ≡ false = sym eb ∙ e in
-        let m : length (offsetsFrom l o) ≡ length (offsetsFrom l (next l o)) + 1 = ap length (offsets-more l o h c) ∙ omega arith in
+        let m : length (offsetsFrom l o) ≡ length (offsetsFrom l (next l o)) + 1 = ap length (by.offsets-more span l o h c) ∙ omega arith in
         rw q
         (record {
           short = k .short;
-          inside = uncut-inside l o c;
-          few = omega (arith, k .few, uncut-span l o c);
-          fault = simp (offsets-more l o h c, sweep, c) at (k .fault);
+          inside = by.uncut-inside span l o c;
+          few = omega (arith, k .few, by.uncut-span span l o c);
+          fault = by.fault-more span l o (eventFault l) (k .fault) h c;
           count = omega (arith, k .count);
         })
 
     pub scan-falls : (p : ℕ) → b ≡ false → p ≡ next l o → length l - p < length l - o
-    scan-falls p e q = let c : cut l o ≡ false = sym eb ∙ e in omega (arith, uncut-span l o c, uncut-inside l o c)
+    scan-falls p e q = let c : cut l o ≡ false = sym eb ∙ e in omega (arith, by.uncut-span span l o c, by.uncut-inside span l o c)
 
   pub scan-end : length l ≤ o → _≡_ {A = Scanned} (record { refusal = Passed; count = n }) (scanned l)
-  unfolding unplayable scanOf sweep orRefuse
+  unfolding unplayable scanOf orRefuse
   scan-end h =
-      let f : Nowhere ≡ eventFault l = simp (offsets-end l o h) at (k .fault) in
-      let z : length (offsetsFrom l o) ≡ 0 = ap length (offsets-end l o h) in
+      let f : Nowhere ≡ eventFault l = by.fault-end span l o (eventFault l) (k .fault) h in
+      let z : length (offsetsFrom l o) ≡ 0 = ap length (by.offsets-end span l o h) in
       let m : n ≡ length (eventsFrom l 0) = omega (arith, k .count) in
       simp (le-ltb _ _ (k .short), ← f, m)
 

@@ -4,17 +4,18 @@
 --     eventAt, eventsFrom, eventsIn              what they say
 --     eventFault, unplayable, scanned            refusal 9, and what the scan of a list hands back
 -- Assumes nothing.
-use Prim.Native.Nat.{ℕ, zero, suc, _+_}
-use mathlib.Core.Bool.{Bool, true, false}
-use mathlib.Core.List.{List, [], _∷_, map}
+use Prim.Native.Nat.{ℕ, _+_}
+use mathlib.Core.Bool.{Bool}
+use mathlib.Core.List.{List, map}
 use lib.ListN.{length}
 use lib.Dec.{ltb, eqb}
 use Rattle.labels.specs.Labels.{label}
 use Rattle.book.specs.declared.Fault.{Fault}
 use Rattle.book.specs.declared.Refusal.{Refusal}
 use Rattle.book.specs.declared.Refusal.the-variants.{Passed, Refused}
-use Rattle.book.specs.Control.{if_then_else_, either, first}
-use Rattle.book.specs.Records.{byteAt, numberAt}
+use Rattle.book.specs.Control.{if_then_else_, first}
+use Rattle.book.specs.Spans.{byteAt, nextBy, cutBy, offsetsBy}
+use Rattle.book.specs.Records.{numberAt}
 use Rattle.book.specs.Refusals.{orRefuse}
 use Rattle.machine.specs.declared.Event.{Event}
 use Rattle.machine.specs.declared.Event.the-variants.{StepOf, WriteBy, RelabelBy, NewBy, ExecBy, StartBy}
@@ -33,21 +34,15 @@ span k =
 
 -- the offset past the event at o
 abbrev pub next : List ℕ → ℕ → ℕ
-next list o = o + span (byteAt list o)
+next list o = nextBy span list o
 
 -- the event at o "has an unknown kind or a cut body"
-unfoldable pub cut : List ℕ → ℕ → Bool
-cut list o = either (eqb (span (byteAt list o)) 0) (ltb (length list) (next list o))
+abbrev pub cut : List ℕ → ℕ → Bool
+cut list o = cutBy span list o
 
--- at most n events from o on, up to one that is cut
-unfoldable pub offsetsIn : ℕ → List ℕ → ℕ → List ℕ
-offsetsIn zero list o = []
-offsetsIn (suc n) list o =
-    elim (ltb o (length list)) [ false ↦ [] | true ↦ elim (cut list o) [ true ↦ o ∷ [] | false ↦ o ∷ offsetsIn n list (next list o) ] ]
-
--- a list has no more events than bytes
-unfoldable pub offsetsFrom : List ℕ → ℕ → List ℕ
-offsetsFrom list o = offsetsIn (length list) list o
+-- the events from o on, up to one that is cut
+abbrev pub offsetsFrom : List ℕ → ℕ → List ℕ
+offsetsFrom list o = offsetsBy span list o
 
 -- "80 step job; by an outsider at label Q: 81 write Q, cell, value kind, number; 82 relabel Q, cell, label; 83 new Q, shape, value kind,
 -- number; 84 exec Q, cell; 85 start Q, block."
