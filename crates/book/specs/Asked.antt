@@ -1,4 +1,4 @@
--- What the functions inside this crate ask of their callers. No call that a user makes asks any of it.
+-- What functions of `book` and `reading` that serve `read` ask of their callers. No call that a user makes asks any of it.
 --     Whole              from an offset on, every record is whole
 --     limit              the largest value of a field of a kind; 255 where any byte will do
 --     Small              a book that refusals 1, 2 and 4 do not hold of

@@ -1,10 +1,10 @@
-// What a program reads whole: standard input, or the file that an argument names. Where that fails it says so on standard error.
+// What a program reads ok: standard input, or the file that an argument names. Where that fails it says so on standard error.
 ghost use mathlib.Core.Path.{_≡_};
 ghost use Rattle.io.specs.Counts.{Counts};
 
 // Whether the reading went well, and how many bytes stand at the start of the space.
 pub struct Input {
-    pub whole: bool,
+    pub ok: bool,
     pub length: usize,
 }
 
@@ -13,7 +13,7 @@ impl Input {
         ensures { λ r. ⌜ r .length ≡ 0 ⌝ }
     {
         Input {
-            whole: false,
+            ok: false,
             length: 0,
         }
     }
@@ -30,12 +30,12 @@ pub fn read_whole(fd: i32, name: &[u8], space: &mut [u8]) -> Input
     ensures { λ r. ⌜ Counts (r .length) (now (space .exit)) ⌝ }
 {
     let length = io::read_full(fd, space);
-    let whole = is_readable(fd);
-    if !whole {
+    let ok = is_readable(fd);
+    if !ok {
         os::fail(name);
     }
     Input {
-        whole: whole,
+        ok: ok,
         length: length,
     }
 }

@@ -1,5 +1,5 @@
 -- Laws of the run, for the code: what a callee gave stands as a variable with its equation.
---     refusals      the stages' refusals
+--     memories, refusals      the memory's refusals, and the stages'
 --     finish-is     the memory after a run that is not refused
 --     lends         the parts of the outline that the loop is lent
 --     runs          the whole
@@ -37,10 +37,29 @@ use Rattle.acts.specs.declared.Job.{Job}
 use Rattle.acts.specs.Views.{cellOf, jobOf}
 use Rattle.tables.specs.Bytes.{cellTable, jobTable, savedCells, savedJobs}
 use Rattle.interpreter.specs.Loop.{opening, Ready, Runnable}
-use Rattle.interpreter.specs.Run.{Run, orNext, untabled, unanswered, refusalBy, finalState, ranOf, ran}
+use Rattle.interpreter.specs.Run.{Run, orNext, untabled, unanswered, memoryRefusal, refusalBy, finalState, ranOf, ran}
 use Rattle.interpreter.proofs.Arrays.{front-long}
 use Rattle.interpreter.proofs.Going.{Played}
 use Rattle.interpreter.proofs.Records.{saved-cells, saved-jobs}
+
+module _ (count cells jobs room : ℕ) where
+  pub refuse-cells : (cells ≡ 576 → ⊥) → Refused 10 0 ≡ memoryRefusal count cells jobs room
+  unfolding orNext untabled both
+  refuse-cells n = simp (ne-eqb _ _ n)
+
+  pub refuse-jobs : cells ≡ 576 → (jobs ≡ 3328 → ⊥) → Refused 10 0 ≡ memoryRefusal count cells jobs room
+  unfolding orNext untabled both
+  refuse-jobs c n = simp (eq-eqb _ _ c, ne-eqb _ _ n)
+
+  pub refuse-room : cells ≡ 576 → jobs ≡ 3328 → room < count → Refused 11 0 ≡ memoryRefusal count cells jobs room
+  unfolding orNext untabled both unanswered
+  refuse-room c j h = simp (eq-eqb _ _ c, eq-eqb _ _ j, lt-ltb _ _ h)
+
+  pub refuse-none : cells ≡ 576 → jobs ≡ 3328 → count ≤ room → Passed ≡ memoryRefusal count cells jobs room
+  unfolding orNext untabled both unanswered
+  refuse-none c j h = simp (eq-eqb _ _ c, eq-eqb _ _ j, le-ltb _ _ h)
+
+pub ruleset memories = (refuse-cells, refuse-jobs, refuse-room, refuse-none)
 
 module _ (read played : Refusal) (count cells jobs room : ℕ) where
   pub refuse-read : (n o : ℕ) → read ≡ Refused n o → Refused n o ≡ refusalBy read played count cells jobs room
@@ -52,24 +71,11 @@ module _ (read played : Refusal) (count cells jobs room : ℕ) where
     unfolding refusalBy orNext
     refuse-played n o e = simp (p, e)
 
-    module _ (q : played ≡ Passed) where
-      pub refuse-cells : (cells ≡ 576 → ⊥) → Refused 10 0 ≡ refusalBy read played count cells jobs room
-      unfolding refusalBy orNext untabled both
-      refuse-cells n = simp (p, q, ne-eqb _ _ n)
+    pub refuse-rest : (x : Refusal) → played ≡ Passed → x ≡ memoryRefusal count cells jobs room → x ≡ refusalBy read played count cells jobs room
+    unfolding refusalBy orNext
+    refuse-rest x q e = simp (p, q) e
 
-      pub refuse-jobs : cells ≡ 576 → (jobs ≡ 3328 → ⊥) → Refused 10 0 ≡ refusalBy read played count cells jobs room
-      unfolding refusalBy orNext untabled both
-      refuse-jobs c n = simp (p, q, eq-eqb _ _ c, ne-eqb _ _ n)
-
-      pub refuse-room : cells ≡ 576 → jobs ≡ 3328 → room < count → Refused 11 0 ≡ refusalBy read played count cells jobs room
-      unfolding refusalBy orNext untabled both unanswered
-      refuse-room c j h = simp (p, q, eq-eqb _ _ c, eq-eqb _ _ j, lt-ltb _ _ h)
-
-      pub refuse-none : cells ≡ 576 → jobs ≡ 3328 → count ≤ room → Passed ≡ refusalBy read played count cells jobs room
-      unfolding refusalBy orNext untabled both unanswered
-      refuse-none c j h = simp (p, q, eq-eqb _ _ c, eq-eqb _ _ j, le-ltb _ _ h)
-
-pub ruleset refusals = (refuse-read, refuse-played, refuse-cells, refuse-jobs, refuse-room, refuse-none)
+pub ruleset refusals = (refuse-read, refuse-played, refuse-rest)
 
 -- nothing is refused: each stage passed
 pub record Passes (read played : Refusal) (count cells jobs room : ℕ) : Type 0 where

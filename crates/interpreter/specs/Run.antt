@@ -31,9 +31,13 @@ untabled cells jobs = if both (eqb cells 576) (eqb jobs 3328) then Passed else R
 unfoldable pub unanswered : ℕ → ℕ → Refusal
 unanswered room events = if ltb room events then Refused 11 0 else Passed
 
+-- 10, then 11
+abbrev pub memoryRefusal : ℕ → ℕ → ℕ → ℕ → Refusal
+memoryRefusal events cells jobs room = orNext (untabled cells jobs) (unanswered room events)
+
 -- "running 1 to 6 and 9 to 11": by the book's refusal and the list's, with its number of events
 unfoldable pub refusalBy : Refusal → Refusal → ℕ → ℕ → ℕ → ℕ → Refusal
-refusalBy read played events cells jobs room = orNext read (orNext played (orNext (untabled cells jobs) (unanswered room events)))
+refusalBy read played events cells jobs room = orNext read (orNext played (memoryRefusal events cells jobs room))
 
 abbrev pub unrunnable : List ℕ → List ℕ → ℕ → ℕ → ℕ → Refusal
 unrunnable book list cells jobs room = refusalBy (unreadable book) (unplayable list) (length (eventsIn list)) cells jobs room

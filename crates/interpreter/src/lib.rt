@@ -1,17 +1,15 @@
 // The run of a job book.
 mod opening;
 mod plans;
-mod running;
-
-pub use running::run;
-
 mod play;
+mod running;
 
 use acts::Effect;
 use acts::Job;
 use book::Refusal;
 use book::Step;
 use machine::Event;
+pub use running::run;
 
 // What an event asks for: an answer at once; the job's step and the offset past it; an outsider's act.
 pub enum Plan {

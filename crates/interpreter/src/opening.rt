@@ -30,7 +30,7 @@ fn open_cell(d: Declared) -> Cell
 }
 
 // The declared cells, from their offsets.
-pub fn open_cells(book: &[u8], offsets: &[u16]) -> [Cell; 64]
+pub fn open_cells(book: &[u8], offsets: &[u16]) -> [Cell; Job::TABLE_SIZE]
     requires { ⌜ Listed (now book) (now offsets) × (length (now offsets) ≤ 64) ⌝ }
     ensures { λ r. ⌜ take (length (now (offsets .entry))) r ≡ openedCells (now (book .entry)) (now (offsets .entry)) ⌝ }
 {
@@ -42,7 +42,7 @@ pub fn open_cells(book: &[u8], offsets: &[u16]) -> [Cell; 64]
             source: Label(0),
         },
     };
-    let mut cells = [none; 64];
+    let mut cells = [none; Job::TABLE_SIZE];
     let mut i: usize = 0;
     while i < offsets.len() {
         let o = typing::offset_of(offsets[i]);

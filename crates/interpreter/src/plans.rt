@@ -77,7 +77,7 @@ pub fn plan_event(
 pub fn clamp(k: usize) -> usize
     ensures { λ r. ⌜ (r ≡ clamped k) × (r < 64) ⌝ }
 {
-    if k < 64 {
+    if k < Job::TABLE_SIZE {
         return k;
     }
     0

@@ -43,7 +43,7 @@ pub fn play(
 {
     let mut held = opening::open_cells(book, offsets);
     let job = opening::open_job(starts, bound, book.len());
-    let mut begun = [job; 64];
+    let mut begun = [job; Job::TABLE_SIZE];
     let mut n = offsets.len();
     let mut m: usize = 1;
     let mut o: usize = 0;
@@ -80,7 +80,7 @@ pub fn play(
             }
             Effect::Store(d) => {
                 begun[i] = job;
-                if k < 64 {
+                if k < Job::TABLE_SIZE {
                     held[k] = d;
                 }
             }

@@ -7,10 +7,35 @@ use labels::Label;
 ghost use mathlib.Core.Path.{_≡_};
 ghost use Prim.Native.Nat.{_≤_};
 ghost use Rattle.book.specs.declared.Refusal.the-variants.{Passed};
-ghost use Rattle.interpreter.specs.Run.{Run, refusalBy, ranOf, ran};
+ghost use Rattle.interpreter.specs.Run.{Run, memoryRefusal, refusalBy, ranOf, ran};
 ghost use Rattle.interpreter.specs.Loop.{Runnable};
 
-// The first refusal of the stages: of the book, of the event list, of the tables, of the answer buffer.
+// The refusal of the lent memory: of the tables, then of the answer buffer.
+fn refuse_memory(count: usize, cells: usize, jobs: usize, room: usize) -> Refusal
+    ensures { λ r. ⌜ r ≡ memoryRefusal count cells jobs room ⌝ }
+{
+    if cells != 576 {
+        return Refusal::Refused {
+            number: 10,
+            place: 0,
+        };
+    }
+    if jobs != 3328 {
+        return Refusal::Refused {
+            number: 10,
+            place: 0,
+        };
+    }
+    if room < count {
+        return Refusal::Refused {
+            number: 11,
+            place: 0,
+        };
+    }
+    Refusal::Passed
+}
+
+// The first refusal of the stages: of the book, of the event list, of the memory.
 fn refuse(
     read: Refusal,
     played: Refusal,
@@ -33,25 +58,7 @@ fn refuse(
             place: place,
         };
     }
-    if cells != 576 {
-        return Refusal::Refused {
-            number: 10,
-            place: 0,
-        };
-    }
-    if jobs != 3328 {
-        return Refusal::Refused {
-            number: 10,
-            place: 0,
-        };
-    }
-    if room < count {
-        return Refusal::Refused {
-            number: 11,
-            place: 0,
-        };
-    }
-    Refusal::Passed
+    refuse_memory(count, cells, jobs, room)
 }
 
 // Runs what no refusal holds of.

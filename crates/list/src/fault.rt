@@ -48,9 +48,10 @@ pub fn record(book: &[u8], place: usize, refusal: u8, n: Tally) {
 
 // 2: a kind is none of the above, or the book ends inside a body.
 fn unreadable(kind: u8) {
-    match kind {
-        1 | 16..=18 | 32 | 48 | 64..=74 => put(b"the book ends inside the record"),
-        _ => put(b"no record has this kind"),
+    if book::group_of(kind) == 0 {
+        put(b"no record has this kind");
+    } else {
+        put(b"the book ends inside the record");
     }
 }
 

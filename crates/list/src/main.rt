@@ -64,7 +64,7 @@ fn main() {
     }
     let mut space = [0u8; 32769];
     let input = console::read_argument(1, &mut space);
-    if input.whole {
+    if input.ok {
         let n = input.length;
         list(&space[..n]);
     }

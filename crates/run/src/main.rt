@@ -16,7 +16,7 @@ fn run(book: &[u8], list: &[u8]) {
 fn run_on(book: &[u8]) {
     let mut space = [0u8; 65537];
     let input = console::read_argument(2, &mut space);
-    if input.whole {
+    if input.ok {
         let n = input.length;
         run(book, &space[..n]);
     }
@@ -29,7 +29,7 @@ fn main() {
     }
     let mut space = [0u8; 32769];
     let input = console::read_argument(1, &mut space);
-    if input.whole {
+    if input.ok {
         let n = input.length;
         run_on(&space[..n]);
     }

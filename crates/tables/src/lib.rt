@@ -99,7 +99,7 @@ fn job_bytes(j: Job) -> [u8; 52]
 }
 
 // The first n cells as a table; their trusts are those of the table of shapes.
-pub fn save_cells(cells: [Cell; 64], n: usize, shapes: &[u8], out: &mut [u8])
+pub fn save_cells(cells: [Cell; Job::TABLE_SIZE], n: usize, shapes: &[u8], out: &mut [u8])
     requires { ⌜ (n ≤ 64) × (length (now out) ≡ 576) ⌝ }
     ensures { λ _. ⌜ now (out .exit) ≡ savedCells (now (shapes .entry)) (take n cells) ⌝ }
 {
@@ -115,7 +115,7 @@ pub fn save_cells(cells: [Cell; 64], n: usize, shapes: &[u8], out: &mut [u8])
 }
 
 // The first m jobs as a table.
-pub fn save_jobs(jobs: [Job; 64], m: usize, out: &mut [u8])
+pub fn save_jobs(jobs: [Job; Job::TABLE_SIZE], m: usize, out: &mut [u8])
     requires { ⌜ (m ≤ 64) × (length (now out) ≡ 3328) × NarrowJobs jobs m ⌝ }
     ensures { λ _. ⌜ now (out .exit) ≡ savedJobs (take m jobs) ⌝ }
 {

@@ -5,7 +5,7 @@ use libc::STDIN_FILENO;
 fn main() {
     let mut space = [0u8; 32769];
     let input = console::read_whole(STDIN_FILENO, b"standard input", &mut space);
-    if input.whole {
+    if input.ok {
         let n = input.length;
         console::verdict(&space[..n]);
     }

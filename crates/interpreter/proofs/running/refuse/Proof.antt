@@ -22,17 +22,11 @@ returns-2 c = search (refusals, needs)
 enum-told-2 : tie.Need-enum-told-2
 enum-told-2 c = search needs
 
+refuse-memory-requires : tie.Need-refuse-memory-requires
+refuse-memory-requires c κs = search needs
+
 returns-3 : tie.Need-returns-3
 returns-3 c = search (refusals, needs)
-
-returns-4 : tie.Need-returns-4
-returns-4 c = search (refusals, needs)
-
-returns-5 : tie.Need-returns-5
-returns-5 c = search (refusals, needs)
-
-returns-6 : tie.Need-returns-6
-returns-6 c = search (refusals, needs)
 
 pub refuse-spec : {M : Type 1} → statement M
 refuse-spec =
@@ -44,7 +38,5 @@ refuse-spec =
     enum-known-played
     returns-2
     enum-told-2
-    returns-3
-    returns-4
-    returns-5
-    returns-6)
+    refuse-memory-requires
+    returns-3)
