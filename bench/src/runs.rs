@@ -20,7 +20,7 @@ const OPTION_EVENTS: &[u8] = include_bytes!("../option.events");
 const ROUNDS: [usize; 4] = [8, 16, 32, 64];
 
 /// As many as a list of 65,536 bytes has room for, behind the events that start the jobs.
-const LONGEST_ROUNDS: usize = 510;
+pub const LONGEST_ROUNDS: usize = 510;
 
 pub fn time(book_a: &[u8]) {
     println!("run            events   verified us  reference us   ratio");

@@ -4,14 +4,11 @@
 
 mod thread;
 
-use crate::runs::mixed;
+use crate::runs::{mixed, LONGEST_ROUNDS};
 use reference::runs::Run;
 use reference::{full_book, mixed_book};
 use std::hint::black_box;
 use thread::stack_used;
-
-/// As many rounds of `mixed` as the longest list has room for.
-const MOST_ROUNDS: usize = 510;
 
 pub fn measure(book_a: &[u8]) {
     println!("call   input         events   stack bytes");
@@ -21,7 +18,7 @@ pub fn measure(book_a: &[u8]) {
     let longest = [80, 0].repeat(32_768);
     measure_run("A1", &Run::new(book_a.to_vec(), [80, 0].repeat(4)));
     measure_run("A1", &Run::new(book_a.to_vec(), longest.clone()));
-    measure_run("mixed", &mixed(MOST_ROUNDS));
+    measure_run("mixed", &mixed(LONGEST_ROUNDS));
     measure_run("full_book", &Run::new(full_book(), longest));
 }
 

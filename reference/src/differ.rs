@@ -6,7 +6,7 @@ pub use books::books;
 
 use crate::generate::dice::Dice;
 use crate::generate::Bytes;
-use crate::machine::{Outcome, Runner};
+use crate::machine::{self, Outcome, Runner};
 use crate::runs::answer::{outcome, Lent};
 use crate::runs::chance::{any_book, events};
 use crate::runs::lively::Most;
@@ -22,17 +22,28 @@ pub struct Difference {
 }
 
 /// Runs without end, the same for the same seed, which must not be 0.
-pub fn runs(seed: u64) -> impl Iterator<Item = Run> {
+fn runs(seed: u64) -> impl Iterator<Item = Run> {
     let mut dice = Dice::new(seed);
     (0..).map(move |number| any_run(&mut dice, number))
 }
 
-/// The first difference in so many runs. The seed must not be 0.
-pub fn differ(seed: u64, count: usize, one: Runner, other: Runner) -> Option<Difference> {
+/// The first difference in so many runs. What both give on a run before it goes to `same`. The seed
+/// must not be 0.
+pub fn differ(
+    seed: u64,
+    count: usize,
+    one: Runner,
+    other: Runner,
+    mut same: impl FnMut(&(Outcome, Lent)),
+) -> Option<Difference> {
     let mut runs = runs(seed).take(count).enumerate();
     runs.find_map(|(number, run)| {
         let (one, other) = (outcome(one, &run), outcome(other, &run));
-        (one != other).then_some(Difference {
+        if one == other {
+            same(&one);
+            return None;
+        }
+        Some(Difference {
             number,
             run,
             one,
@@ -41,7 +52,19 @@ pub fn differ(seed: u64, count: usize, one: Runner, other: Runner) -> Option<Dif
     })
 }
 
-const MOST: Most = Most {
+/// A run that keeps its answers for itself: a wrong one, for tests that a difference is found.
+pub fn forgetful(
+    book: &[u8],
+    events: &[u8],
+    cells: &mut [u8],
+    jobs: &mut [u8],
+    answers: &mut [u8],
+) -> Outcome {
+    machine::run(book, events, cells, jobs, &mut answers.to_vec())
+}
+
+/// How large the lively books are.
+const LIVELY: Most = Most {
     cells: 6,
     blocks: 5,
     steps: 12,
@@ -49,7 +72,7 @@ const MOST: Most = Most {
 
 /// Mostly a run that is not refused.
 fn any_run(dice: &mut Dice, number: usize) -> Run {
-    let mut book = any_book(dice, number, MOST);
+    let mut book = any_book(dice, number, LIVELY);
     let count = match dice.below(20) {
         0 => dice.below(400),
         _ => dice.below(60),
@@ -93,28 +116,16 @@ fn any_lengths(dice: &mut Dice, mut lengths: [usize; 3]) -> [usize; 3] {
 #[cfg(test)]
 mod tests {
     use super::*;
-    use crate::machine::{self, fast};
+    use crate::machine::fast;
 
     #[test]
     fn the_two_machines_do_not_differ() {
-        assert!(differ(1, 5_000, machine::run, fast::run).is_none());
-    }
-
-    /// A run that forgets the answers.
-    fn forgetful(
-        book: &[u8],
-        events: &[u8],
-        cells: &mut [u8],
-        jobs: &mut [u8],
-        answers: &mut [u8],
-    ) -> Outcome {
-        let mut own = answers.to_vec();
-        machine::run(book, events, cells, jobs, &mut own)
+        assert!(differ(1, 5_000, machine::run, fast::run, |_| {}).is_none());
     }
 
     #[test]
     fn a_difference_is_found() {
-        let found = differ(1, 50, machine::run, forgetful).unwrap();
+        let found = differ(1, 50, machine::run, forgetful, |_| {}).unwrap();
         assert_eq!(found.one.0, found.other.0);
         assert_ne!(found.one.1, found.other.1);
     }

@@ -100,7 +100,7 @@ fn number(word: OsString) -> io::Result<usize> {
 
 fn print_difference(count: OsString) -> io::Result<()> {
     let count = number(count)?;
-    match differ::differ(SEED, count, machine::run, machine::fast::run) {
+    match differ::differ(SEED, count, machine::run, machine::fast::run, |_| {}) {
         Some(difference) => Err(io::Error::other(format!("{difference:?}"))),
         None => {
             println!("{count} runs, no difference");

@@ -2,8 +2,7 @@
 
 use reference::book::Refusal;
 use reference::machine::{Outcome, Runner};
-use reference::runs::answer::{outcome, Lent};
-use reference::runs::Run;
+use reference::runs::answer::Lent;
 use reference::{differ, Verdict};
 use std::fmt;
 
@@ -52,15 +51,12 @@ pub struct Difference(pub String);
 /// Compares so many runs: what each answers, and all the lent memory.
 pub fn runs(seed: u64, count: usize, one: Runner, other: Runner) -> Result<Tally, Difference> {
     let mut tally = Tally::default();
-    for (number, run) in differ::runs(seed).take(count).enumerate() {
-        let (one, other) = (outcome(one, &run), outcome(other, &run));
-        if one != other {
-            return Err(different_run(number, &run, &one, &other));
-        }
-        tally.count_refusal(one.0.map_or_else(|refusal| refusal.number, |_| 0));
-        tally.count_answers(&one.1[2]);
-    }
-    Ok(tally)
+    let found = differ::differ(seed, count, one, other, |(outcome, [_, _, answers])| {
+        let refusal = outcome.as_ref().err();
+        tally.count_refusal(refusal.map_or(0, |refusal| refusal.number));
+        tally.count_answers(answers);
+    });
+    found.map_or(Ok(tally), |found| Err(different_run(&found)))
 }
 
 /// What a book is answered: the verdict, and the offset and length of a block's stretch.
@@ -92,19 +88,15 @@ pub fn books(seed: u64, count: usize, one: Checker, other: Checker) -> Result<Ta
     Ok(tally)
 }
 
-fn different_run(
-    number: usize,
-    run: &Run,
-    one: &(Outcome, Lent),
-    other: &(Outcome, Lent),
-) -> Difference {
+fn different_run(found: &differ::Difference) -> Difference {
     Difference(format!(
-        "number {number}\nbook {}\nevents {}\nlengths {:?}\none {}\nother {}",
-        hex(&run.book),
-        hex(&run.events),
-        run.lengths,
-        side(one),
-        side(other)
+        "number {}\nbook {}\nevents {}\nlengths {:?}\none {}\nother {}",
+        found.number,
+        hex(&found.run.book),
+        hex(&found.run.events),
+        found.run.lengths,
+        side(&found.one),
+        side(&found.other)
     ))
 }
 

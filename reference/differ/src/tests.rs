@@ -2,19 +2,9 @@
 
 use crate::compare::{self, Checked, Difference};
 use crate::{reference_checks, verified_checks};
-use reference::machine::{self, Outcome};
+use reference::differ::forgetful;
+use reference::machine;
 use reference::Verdict;
-
-/// A run that keeps its answers for itself.
-fn forgetful(
-    book: &[u8],
-    events: &[u8],
-    cells: &mut [u8],
-    jobs: &mut [u8],
-    answers: &mut [u8],
-) -> Outcome {
-    machine::run(book, events, cells, jobs, &mut answers.to_vec())
-}
 
 /// A check that accepts nothing.
 fn stern(book: &[u8], block: usize) -> Checked {

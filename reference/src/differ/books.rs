@@ -1,19 +1,14 @@
 //! Books by chance.
 
+use super::LIVELY;
 use crate::check_books::{change, walk};
 use crate::generate::dice::Dice;
 use crate::generate::valid::{self, size, Size};
 use crate::generate::{chance, Bytes};
-use crate::runs::lively::{self, Most};
+use crate::runs::lively;
 
 const SMALL: Size = size(8, 4, 3, 12);
 const LARGE: Size = size(32, 32, 12, 64);
-
-const LIVELY: Most = Most {
-    cells: 6,
-    blocks: 5,
-    steps: 12,
-};
 
 /// Books without end, the same for the same seed, which must not be 0. They are accepted, near to
 /// that, readable, or damaged.
