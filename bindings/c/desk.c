@@ -2,7 +2,7 @@
  * Exit status: 0 it ran, 1 refused, 2 no answer.
  *
  * From the repository's folder, once `rt staticlib xemdulba` has written the library:
- *   cc -std=c99 -Iinclude bindings/c/desk.c target/staticlib/libxemdulba.a -o desk
+ *   cc -std=c99 -Iinclude bindings/c/desk.c target/staticlib/libxemdulba.a -o target/desk
  */
 #include "xemdulba.h"
 

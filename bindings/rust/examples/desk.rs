@@ -4,6 +4,7 @@
 use std::ffi::OsString;
 use std::fmt::{self, Write as _};
 use std::io::{self, Write as _};
+use std::path::Path;
 use std::process::ExitCode;
 use xemdulba::{Cell, Job, Refusal, Run, Value};
 
@@ -38,7 +39,7 @@ fn answer(book: &OsString, events: &OsString) -> io::Result<u8> {
 }
 
 fn read(path: &OsString) -> io::Result<Vec<u8>> {
-    let named = |error| io::Error::other(format!("{}: {error}", path.display()));
+    let named = |error| io::Error::other(format!("{}: {error}", Path::new(path).display()));
     std::fs::read(path).map_err(named)
 }
 
