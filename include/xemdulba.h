@@ -3,8 +3,9 @@
  *
  * Every call returns on every input and answers what the proved definitions say. xemdulba_check and xemdulba_block write to no memory
  * that they are lent; xemdulba_run writes to its two tables and its answers alone. A book is any bytes, and so is an event list; a
- * pointer may be any address, not null, where its length is 0. Every number is the definitions' own: it is proved that it has 32 bits.
- * No start or length is above 32,768, and no place above 32,768, or 65,536 for refusal 9.
+ * pointer may be any address, not null, where its length is 0. Every number is the definitions' own: it is proved that it fits in 32
+ * bits. No start or length is above 32,768, and no place above 32,768, or 65,536 for refusal 9. No call uses a heap or keeps a state.
+ * How much stack a call uses was measured, not proved: see bench/run.
  *
  * The refusals, each with the place of the first record at fault, as an offset of the book, or of the event list for 9:
  *   1   the book is longer than 32,768 bytes; place 0

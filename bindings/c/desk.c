@@ -130,7 +130,7 @@ int main(int count, char **arguments)
         return 2;
     }
     status = desk(book_length, list_length);
-    if (fflush(stdout) != 0) {
+    if (fflush(stdout) != 0 || ferror(stdout)) {
         perror("desk");
         return 2;
     }
