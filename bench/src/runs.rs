@@ -2,8 +2,8 @@
 
 use crate::timing::{self, Times};
 use reference::machine::{event, fast, Runner};
-use reference::mixed_book;
 use reference::runs::{answer::outcome, Run};
+use reference::{full_book, mixed_book};
 use std::hint::black_box;
 
 /// A book for one option, 95 bytes, which the check accepts. Vol, rate and hedge are official cells,
@@ -23,7 +23,7 @@ const ROUNDS: [usize; 4] = [8, 16, 32, 64];
 pub const LONGEST_ROUNDS: usize = 510;
 
 pub fn time(book_a: &[u8]) {
-    println!("run            events   verified us  reference us   ratio");
+    println!("run            events    done   verified us  reference us   ratio");
     time_run("A1", &Run::new(book_a.to_vec(), [80, 0].repeat(4)));
     time_run(
         "one option",
@@ -35,6 +35,7 @@ pub fn time(book_a: &[u8]) {
     );
     time_run("mixed", &mixed(64));
     time_run("mixed, longest", &mixed(LONGEST_ROUNDS));
+    time_run("full, longest", &turns(full_book(), LONGEST_ROUNDS));
 
     println!();
     println!("mixed with a number of rounds, nanoseconds for each event, the reading of the book included");
@@ -48,8 +49,9 @@ fn time_run(name: &str, run: &Run) {
     let times = compare(run);
     let ratio = times.verified / times.reference;
     println!(
-        "{name:<15}{:>6}{:>14.3}{:>14.3}{ratio:>8.2}",
+        "{name:<15}{:>6}{:>8}{:>14.3}{:>14.3}{ratio:>8.2}",
         count(run),
+        done(run),
         times.verified,
         times.reference
     );
@@ -88,9 +90,21 @@ fn count(run: &Run) -> usize {
     event::split(&run.events).map_or(0, |events| events.len())
 }
 
-/// The largest book with steps of all kinds: its blocks are started, and then the 64 jobs take turns.
+/// How many events are answered 0.
+fn done(run: &Run) -> usize {
+    let [mut cells, mut jobs, mut answers] = run.lengths.map(|length| vec![9; length]);
+    fast::run(&run.book, &run.events, &mut cells, &mut jobs, &mut answers).expect("it runs");
+    answers.iter().filter(|answer| **answer == 0).count()
+}
+
+/// The largest book with steps of all kinds. Most of its jobs are soon blocked.
 pub fn mixed(rounds: usize) -> Run {
+    turns(mixed_book(), rounds)
+}
+
+/// Outsiders start the blocks of a book of 64, and then its 64 jobs take turns.
+fn turns(book: Vec<u8>, rounds: usize) -> Run {
     let begin = (0..63u8).flat_map(|block| [85, block % 4, block]);
     let turns = (0..rounds).flat_map(|_| (0..64u8).flat_map(|job| [80, job]));
-    Run::new(mixed_book(), begin.chain(turns).collect())
+    Run::new(book, begin.chain(turns).collect())
 }
