@@ -1,7 +1,5 @@
 // Reading a job book: refusals 1 to 6, the outline, a block's stretch.
-mod faults;
 mod gather;
-mod naming;
 
 use book::Fault;
 use book::Found;
@@ -31,7 +29,7 @@ pub fn read(book: &[u8]) -> Reading
         return Reading::refused(5, o);
     }
     let outline = gather::outline(book);
-    if let Fault::At(o) = naming::name_fault(book, outline) {
+    if let Fault::At(o) = faults::name_fault(book, outline) {
         return Reading::refused(6, o);
     }
     Reading {

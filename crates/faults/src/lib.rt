@@ -1,0 +1,9 @@
+// The first record at fault, for each of refusals 2 to 6: a stage covers the whole book.
+mod naming;
+mod stages;
+
+pub use naming::name_fault;
+pub use stages::count_fault;
+pub use stages::cut_fault;
+pub use stages::order_fault;
+pub use stages::range_fault;
