@@ -78,10 +78,10 @@ fn compare(run: &Run) -> Times {
 
 /// A call on buffers of its own.
 fn call(runner: Runner, run: &Run) -> impl FnMut() + '_ {
-    let [mut cells, mut jobs, mut answers] = run.lengths.map(|length| vec![0; length]);
+    let mut lent = run.lengths.map(|length| vec![0; length]);
     move || {
         let (book, events) = black_box((&run.book, &run.events));
-        let outcome = runner(book, events, &mut cells, &mut jobs, &mut answers);
+        let outcome = runner(book, events, &mut lent);
         black_box(&outcome).as_ref().expect("it runs");
     }
 }
@@ -92,8 +92,7 @@ fn count(run: &Run) -> usize {
 
 /// How many events are answered 0.
 fn done(run: &Run) -> usize {
-    let [mut cells, mut jobs, mut answers] = run.lengths.map(|length| vec![9; length]);
-    fast::run(&run.book, &run.events, &mut cells, &mut jobs, &mut answers).expect("it runs");
+    let (_, [_, _, answers]) = outcome(fast::run, run);
     answers.iter().filter(|answer| **answer == 0).count()
 }
 

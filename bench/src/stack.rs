@@ -30,11 +30,11 @@ fn measure_check(name: &str, book: &[u8]) {
 }
 
 fn measure_run(name: &str, run: &Run) {
-    let [mut cells, mut jobs, mut answers] = run.lengths.map(|length| vec![0; length]);
+    let mut lent = run.lengths.map(|length| vec![0; length]);
     let used = stack_used(&mut || {
         let (book, events) = black_box((&run.book, &run.events));
-        let outcome = verified::run(book, events, &mut cells, &mut jobs, &mut answers);
+        let outcome = verified::run(book, events, &mut lent);
         black_box(&outcome).as_ref().expect("it runs");
     });
-    println!("run    {name:<12}{:>8}{used:>14}", answers.len());
+    println!("run    {name:<12}{:>8}{used:>14}", lent[2].len());
 }

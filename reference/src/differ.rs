@@ -6,8 +6,8 @@ pub use books::books;
 
 use crate::generate::dice::Dice;
 use crate::generate::Bytes;
-use crate::machine::{self, Outcome, Runner};
-use crate::runs::answer::{outcome, Lent};
+use crate::machine::{self, Lent, Outcome, Runner};
+use crate::runs::answer::outcome;
 use crate::runs::chance::{any_book, events};
 use crate::runs::lively::Most;
 use crate::runs::{Run, LONGEST};
@@ -53,14 +53,11 @@ pub fn differ(
 }
 
 /// A run that keeps its answers for itself: a wrong one, for tests that a difference is found.
-pub fn forgetful(
-    book: &[u8],
-    events: &[u8],
-    cells: &mut [u8],
-    jobs: &mut [u8],
-    answers: &mut [u8],
-) -> Outcome {
-    machine::run(book, events, cells, jobs, &mut answers.to_vec())
+pub fn forgetful(book: &[u8], events: &[u8], lent: &mut Lent) -> Outcome {
+    let answers = lent[2].clone();
+    let outcome = machine::run(book, events, lent);
+    lent[2] = answers;
+    outcome
 }
 
 /// How large the lively books are.

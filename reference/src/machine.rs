@@ -34,18 +34,14 @@ pub struct Ran {
 /// What a run answers. On a refusal nothing is written.
 pub type Outcome = Result<Ran, Refusal>;
 
-/// How a book is run: `run`, or another implementation.
-pub type Runner = fn(&[u8], &[u8], &mut [u8], &mut [u8], &mut [u8]) -> Outcome;
+/// The lent buffers: the cell table, the job table, the answers.
+pub type Lent = [Vec<u8>; 3];
 
-/// Runs a book on a list of events, both as bytes. The cell table, the job table and the answer
-/// buffer are lent.
-pub fn run(
-    book: &[u8],
-    events: &[u8],
-    cells: &mut [u8],
-    jobs: &mut [u8],
-    answers: &mut [u8],
-) -> Outcome {
+/// How a book is run: `run`, or another implementation.
+pub type Runner = fn(&[u8], &[u8], &mut Lent) -> Outcome;
+
+/// Runs a book on a list of events, both as bytes.
+pub fn run(book: &[u8], events: &[u8], [cells, jobs, answers]: &mut Lent) -> Outcome {
     let (book, events) = admitted(book, events)?;
     check_tables(cells, jobs)?;
     check_answers(answers, events.len())?;

@@ -1,8 +1,7 @@
 //! Two implementations on the same inputs by chance.
 
 use reference::book::Refusal;
-use reference::machine::{Outcome, Runner};
-use reference::runs::answer::Lent;
+use reference::machine::{Lent, Outcome, Runner};
 use reference::{differ, Verdict};
 use std::fmt;
 

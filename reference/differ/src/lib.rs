@@ -1,7 +1,7 @@
 //! The verified library with the reference's answers.
 
 use reference::book::{self, Refusal};
-use reference::machine::{Outcome, Ran};
+use reference::machine::{Lent, Outcome, Ran};
 use reference::Verdict;
 
 pub fn check(bytes: &[u8]) -> Verdict {
@@ -24,13 +24,7 @@ pub fn stretch(bytes: &[u8], block: usize) -> Result<(usize, usize), Refusal> {
 }
 
 /// A `machine::Runner`. It allocates nothing.
-pub fn run(
-    book: &[u8],
-    events: &[u8],
-    cells: &mut [u8],
-    jobs: &mut [u8],
-    answers: &mut [u8],
-) -> Outcome {
+pub fn run(book: &[u8], events: &[u8], [cells, jobs, answers]: &mut Lent) -> Outcome {
     let tables = xemdulba::run_into(book, events, cells, jobs, answers).map_err(refused)?;
     Ok(Ran {
         cells: tables.cells.len(),

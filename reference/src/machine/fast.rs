@@ -4,7 +4,7 @@ mod acts;
 mod steps;
 
 use super::event::{self, Event};
-use super::{check_answers, check_tables, Outcome, Ran, CELL_SIZE, JOB_SIZE, TABLE};
+use super::{check_answers, check_tables, Lent, Outcome, Ran, CELL_SIZE, JOB_SIZE, TABLE};
 use crate::book::{self, Book, DeclaredCell};
 
 /// Kind, number and source; a source of two histories is the lower of theirs.
@@ -49,13 +49,7 @@ struct Fast<'b> {
 }
 
 /// As `machine::run`.
-pub fn run(
-    book: &[u8],
-    events: &[u8],
-    cells: &mut [u8],
-    jobs: &mut [u8],
-    answers: &mut [u8],
-) -> Outcome {
+pub fn run(book: &[u8], events: &[u8], [cells, jobs, answers]: &mut Lent) -> Outcome {
     let book = book::read(book)?;
     let mut count = 0;
     event::walk(events, |_| count += 1)?;

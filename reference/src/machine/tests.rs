@@ -21,8 +21,9 @@ struct After {
 
 /// A run with buffers of these lengths: cells, jobs, answers.
 fn run_with(run: Runner, book: &[u8], events: &[u8], lengths: [usize; 3]) -> After {
-    let [mut cells, mut jobs, mut answers] = lengths.map(|length| vec![BEFORE; length]);
-    let outcome = run(book, events, &mut cells, &mut jobs, &mut answers);
+    let mut lent = lengths.map(|length| vec![BEFORE; length]);
+    let outcome = run(book, events, &mut lent);
+    let [cells, jobs, answers] = lent;
     After {
         outcome,
         cells,

@@ -1,19 +1,15 @@
 //! The line printed for a run.
 
 use super::Run;
-use crate::machine::{self, event, Outcome, Runner, CELL_SIZE, JOB_SIZE};
+use crate::machine::{self, event, Lent, Outcome, Runner, CELL_SIZE, JOB_SIZE};
 
 /// What the lent buffers hold before a run.
 pub const BEFORE: u8 = 0xA5;
 
-/// The lent buffers: the cell table, the job table, the answers.
-pub type Lent = [Vec<u8>; 3];
-
 /// What a run gives, and the buffers behind it.
 pub fn outcome(runner: Runner, run: &Run) -> (Outcome, Lent) {
     let mut lent = run.lengths.map(|length| vec![BEFORE; length]);
-    let [cells, jobs, answers] = &mut lent;
-    let outcome = runner(&run.book, &run.events, cells, jobs, answers);
+    let outcome = runner(&run.book, &run.events, &mut lent);
     (outcome, lent)
 }
 
