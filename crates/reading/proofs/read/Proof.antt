@@ -21,13 +21,15 @@ refused-requires-2 : tie.Need-refused-requires-2
 refused-requires-2 c κs = search needs
 
 returns-2 : tie.Need-returns-2
-returns-2 c = refuse2 _ (c .before .before .before .before .before .if1 .left) _ _ (cc) (c .refused2 .ensures)
+returns-2 c =
+    let begun = c .before .before .before .before .before in
+    refuse2 _ (begun .if1 .left) _ _ (sym (c .before .before .before .before .cut-fault .ensures) ∙ c .before .before .o .given .1) (c .refused2 .ensures)
 
 enum-told : tie.Need-enum-told
 enum-told c = search needs
 
 order-fault-requires : tie.Need-order-fault-requires
-order-fault-requires c κs = pass-whole _ (cc)
+order-fault-requires c κs = pass-whole _ (sym (c .before .before .cut-fault .ensures) ∙ c .enum-told .given .1)
 
 enum-known-o-2 : tie.Need-enum-known-o-2
 enum-known-o-2 c = search needs
@@ -36,13 +38,18 @@ refused-requires-3 : tie.Need-refused-requires-3
 refused-requires-3 c κs = search needs
 
 returns-3 : tie.Need-returns-3
-returns-3 c = refuse3 _ (c .before .before .before .before .before .before .before .before .if1 .left) (cc) _ _ (cc) (c .refused3 .ensures)
+returns-3 c =
+    let p1 = c .before .before .before .before .before in
+    let begun = p1 .before .before .before in
+    refuse3 _ (begun .if1 .left) (sym (p1 .before .before .cut-fault .ensures) ∙ p1 .enum-told .given .1) _ _ (sym (c .before .before .before .before .order-fault .ensures) ∙ c .before .before .o2 .given .1) (c .refused3 .ensures)
 
 enum-told-2 : tie.Need-enum-told-2
 enum-told-2 c = search needs
 
 count-fault-requires : tie.Need-count-fault-requires
-count-fault-requires c κs = pass-whole _ (cc)
+count-fault-requires c κs =
+    let p1 = c .before .before .before in
+    pass-whole _ (sym (p1 .before .before .cut-fault .ensures) ∙ p1 .enum-told .given .1)
 
 enum-known-o-3 : tie.Need-enum-known-o-3
 enum-known-o-3 c = search needs
@@ -51,13 +58,20 @@ refused-requires-4 : tie.Need-refused-requires-4
 refused-requires-4 c κs = search needs
 
 returns-4 : tie.Need-returns-4
-returns-4 c = refuse4 _ (c .before .before .before .before .before .before .before .before .before .before .before .if1 .left) (cc) (cc) _ _ (cc) (c .refused4 .ensures)
+returns-4 c =
+    let p2 = c .before .before .before .before .before in
+    let p1 = p2 .before .before .before in
+    let begun = p1 .before .before .before in
+    refuse4 _ (begun .if1 .left) (sym (p1 .before .before .cut-fault .ensures) ∙ p1 .enum-told .given .1) (sym (p2 .before .before .order-fault .ensures) ∙ p2 .enum-told2 .given .1) _ _ (sym (c .before .before .before .before .count-fault .ensures) ∙ c .before .before .o3 .given .1) (c .refused4 .ensures)
 
 enum-told-3 : tie.Need-enum-told-3
 enum-told-3 c = search needs
 
 range-fault-requires : tie.Need-range-fault-requires
-range-fault-requires c κs = pass-whole _ (cc)
+range-fault-requires c κs =
+    let p2 = c .before .before .before in
+    let p1 = p2 .before .before .before in
+    pass-whole _ (sym (p1 .before .before .cut-fault .ensures) ∙ p1 .enum-told .given .1)
 
 enum-known-o-4 : tie.Need-enum-known-o-4
 enum-known-o-4 c = search needs
@@ -66,16 +80,33 @@ refused-requires-5 : tie.Need-refused-requires-5
 refused-requires-5 c κs = search needs
 
 returns-5 : tie.Need-returns-5
-returns-5 c = refuse5 _ (c .before .before .before .before .before .before .before .before .before .before .before .before .before .before .if1 .left) (cc) (cc) (cc) _ _ (cc) (c .refused5 .ensures)
+returns-5 c =
+    let p3 = c .before .before .before .before .before in
+    let p2 = p3 .before .before .before in
+    let p1 = p2 .before .before .before in
+    let begun = p1 .before .before .before in
+    refuse5 _ (begun .if1 .left) (sym (p1 .before .before .cut-fault .ensures) ∙ p1 .enum-told .given .1) (sym (p2 .before .before .order-fault .ensures) ∙ p2 .enum-told2 .given .1) (sym (p3 .before .before .count-fault .ensures) ∙ p3 .enum-told3 .given .1) _ _ (sym (c .before .before .before .before .range-fault .ensures) ∙ c .before .before .o4 .given .1) (c .refused5 .ensures)
 
 enum-told-4 : tie.Need-enum-told-4
 enum-told-4 c = search needs
 
 outline-requires : tie.Need-outline-requires
-outline-requires c κs = pass-small _ (c .before .before .before .before .before .before .before .before .before .before .before .before .if1 .left) (cc) (cc)
+outline-requires c κs =
+    let p4 = c in
+    let p3 = p4 .before .before .before in
+    let p2 = p3 .before .before .before in
+    let p1 = p2 .before .before .before in
+    let begun = p1 .before .before .before in
+    pass-small _ (begun .if1 .left) (sym (p1 .before .before .cut-fault .ensures) ∙ p1 .enum-told .given .1) (sym (p3 .before .before .count-fault .ensures) ∙ p3 .enum-told3 .given .1)
 
 name-fault-requires : tie.Need-name-fault-requires
-name-fault-requires c κs = pass-outlined _ (c .before .before .before .before .before .before .before .before .before .before .before .before .before .if1 .left) (cc) _ (cc) (c .outline .ensures)
+name-fault-requires c κs =
+    let p4 = c .before in
+    let p3 = p4 .before .before .before in
+    let p2 = p3 .before .before .before in
+    let p1 = p2 .before .before .before in
+    let begun = p1 .before .before .before in
+    pass-outlined _ (begun .if1 .left) (sym (p1 .before .before .cut-fault .ensures) ∙ p1 .enum-told .given .1) _ (sym (p3 .before .before .count-fault .ensures) ∙ p3 .enum-told3 .given .1) (c .outline .ensures)
 
 enum-known-o-5 : tie.Need-enum-known-o-5
 enum-known-o-5 c = search needs
@@ -84,13 +115,25 @@ refused-requires-6 : tie.Need-refused-requires-6
 refused-requires-6 c κs = search needs
 
 returns-6 : tie.Need-returns-6
-returns-6 c = refuse6 _ (c .before .before .before .before .before .before .before .before .before .before .before .before .before .before .before .before .before .before .if1 .left) (sym (c .before .before .before .before .before .before .before .before .before .before .before .before .before .before .before .before .before .cut-fault .ensures) ∙ c .before .before .before .before .before .before .before .before .before .before .before .before .before .before .before .enum-told .given .1) (sym (c .before .before .before .before .before .before .before .before .before .before .before .before .before .before .order-fault .ensures) ∙ c .before .before .before .before .before .before .before .before .before .before .before .before .enum-told2 .given .1) (sym (c .before .before .before .before .before .before .before .before .before .before .before .count-fault .ensures) ∙ c .before .before .before .before .before .before .before .before .before .enum-told3 .given .1) (sym (c .before .before .before .before .before .before .before .before .range-fault .ensures) ∙ c .before .before .before .before .before .before .enum-told4 .given .1) _ _ (cc) (c .refused6 .ensures)
+returns-6 c =
+    let p4 = c .before .before .before .before .before .before in
+    let p3 = p4 .before .before .before in
+    let p2 = p3 .before .before .before in
+    let p1 = p2 .before .before .before in
+    let begun = p1 .before .before .before in
+    refuse6 _ (begun .if1 .left) (sym (p1 .before .before .cut-fault .ensures) ∙ p1 .enum-told .given .1) (sym (p2 .before .before .order-fault .ensures) ∙ p2 .enum-told2 .given .1) (sym (p3 .before .before .count-fault .ensures) ∙ p3 .enum-told3 .given .1) (sym (p4 .before .before .range-fault .ensures) ∙ p4 .enum-told4 .given .1) _ _ (sym (c .before .before .before .before .name-fault .ensures) ∙ c .before .before .o5 .given .1) (c .refused6 .ensures)
 
 enum-told-5 : tie.Need-enum-told-5
 enum-told-5 c = search needs
 
 returns-7 : tie.Need-returns-7
-returns-7 c = accepts _ (c .before .before .before .before .before .before .before .before .before .before .before .before .before .before .before .before .if1 .left) (cc) (cc) (cc) (cc) _ (cc) (c .before .before .before .outline .ensures)
+returns-7 c =
+    let p4 = c .before .before .before .before in
+    let p3 = p4 .before .before .before in
+    let p2 = p3 .before .before .before in
+    let p1 = p2 .before .before .before in
+    let begun = p1 .before .before .before in
+    accepts _ (begun .if1 .left) (sym (p1 .before .before .cut-fault .ensures) ∙ p1 .enum-told .given .1) (sym (p2 .before .before .order-fault .ensures) ∙ p2 .enum-told2 .given .1) (sym (p3 .before .before .count-fault .ensures) ∙ p3 .enum-told3 .given .1) (sym (p4 .before .before .range-fault .ensures) ∙ p4 .enum-told4 .given .1) _ (sym (c .before .before .name-fault .ensures) ∙ c .enum-told5 .given .1) (c .before .before .before .outline .ensures)
 
 pub read-spec : {M : Type 1} → statement M
 read-spec =
