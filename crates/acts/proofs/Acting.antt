@@ -13,8 +13,7 @@ use Rattle.labels.specs.declared.Label.{Label}
 use Rattle.labels.specs.Labels.{label, lower, reaches}
 use Rattle.book.specs.declared.Value.{Value}
 use Rattle.book.specs.declared.Value.the-variants.{Plain, CellName, CodeName}
-use Rattle.book.specs.Control.{both}
-use Rattle.typing.specs.Shapes.{onSome}
+use Rattle.book.specs.Control.{both, onSome}
 use Rattle.machine.specs.Control.{given, onPlain, onCell, onCode}
 use Rattle.machine.specs.Histories.{sources}
 use Rattle.machine.specs.States.{Job}

@@ -25,7 +25,7 @@ use Rattle.machine.specs.Acts.{Effect, blocked, keep, store, create, launch, is
 use Rattle.machine.specs.Steps.{Turn, register, through, reading, adding, lowering, turnOf}
 use Rattle.machine.specs.Events.{tableSize}
 use Rattle.machine.proofs.Cases.{given-both, some-both, plain-both, cell-both, code-both}
-use Rattle.typing.proofs.CellRules.{at-none}
+use Rattle.book.proofs.Lists.{at-none}
 use Rattle.acts.specs.declared.Near.{Near}
 use Rattle.acts.specs.Views.{cellOf, nearby, numberIn, reachedBy}
 use Rattle.acts.specs.Outside.{aimedAt, outside}

@@ -7,6 +7,7 @@ pub mod Groups
 pub mod Spans
 pub mod Records
 pub mod Steps
+pub mod Standing
 pub mod Sweep
 pub mod Stages
 pub mod Ranges
@@ -22,4 +23,6 @@ pub mod Lower
 pub mod Readable
 pub mod Parsed
 pub mod Blocks
+pub mod Stretches
+pub mod Outlines
 pub mod Bounds

@@ -1,4 +1,4 @@
--- What functions of `book` and `reading` that serve `read` ask of their callers. No call that a user makes asks any of it.
+-- What functions that serve `read`, `check` and `run` ask of their callers. No call that a user makes asks any of it.
 --     Whole              from an offset on, every record is whole
 --     limit              the largest value of a field of a kind; 255 where any byte will do
 --     Small              a book that refusals 1, 2 and 4 do not hold of
@@ -6,14 +6,18 @@
 --     Blank, drawn       an outline's tables: zero; and what they make
 --     cellKind           by the table of shapes, whether a shape is a cell shape
 --     skipped            where the steps from an offset on end, and how many they are
+--     Sound              contents are lower-numbered
+--     Listed, Laid       offsets of declared cells; where the blocks' stretches are
 -- Assumes nothing.
 use mathlib.Core.Path.{_≡_}
-use mathlib.Core.List.{List}
-use Prim.Native.Nat.{ℕ, _≤_}
+use mathlib.Core.List.{List, map}
+use Prim.Native.Nat.{ℕ, _≤_, _<_}
 use mathlib.Core.Bool.{Bool}
 use lib.Dec.{eqb}
 use lib.ListN.{length, getD, replicate}
 use Rattle.labels.specs.Labels.{label}
+use Rattle.book.specs.declared.Shape.{Shape}
+use Rattle.book.specs.declared.CellAt.the-variants.{CellThere}
 use Rattle.book.specs.declared.Fault.the-variants.{Nowhere}
 use Rattle.book.specs.declared.Counts.{Counts}
 use Rattle.book.specs.declared.Outline.{Outline}
@@ -21,9 +25,10 @@ use Rattle.book.specs.declared.Skipped.{Skipped}
 use Rattle.book.specs.Control.{first}
 use Rattle.book.specs.Kinds.{limits}
 use Rattle.book.specs.Records.{byteAt, cut, recordsFrom}
-use Rattle.book.specs.Book.{stepsFrom}
-use Rattle.book.specs.Refusals.{countFault}
-use Rattle.book.specs.Outline.{stepsEnd, shapeIn, outlineOf}
+use Rattle.book.specs.Book.{blocksOf, declaredAt, stepsFrom}
+use Rattle.book.specs.Refusals.{cutFault, countFault}
+use Rattle.book.specs.Outline.{stepsEnd, shapeIn, boundAt, startAt, lengthAt, outlineOf}
+use Rattle.book.specs.Stretch.{cellFound}
 
 abbrev pub Whole : List ℕ → ℕ → Type 0
 Whole s o = first (cut s) (recordsFrom s o) ≡ Nowhere
@@ -61,3 +66,19 @@ pub record Blank (shape cell shaped bound start size : List ℕ) : Type 0 where
 abbrev pub drawn : List ℕ → Counts → List ℕ → List ℕ → List ℕ → List ℕ → List ℕ → List ℕ → Outline
 drawn s n shape cell shaped bound start size =
     record { c = label (byteAt s 1); counts = n; shape = shape; cell = cell; shaped = shaped; bound = bound; start = start; length = size }
+
+-- contents are lower-numbered: refusal 6
+pub record Sound (shape : ℕ → Shape) : Type 0 where
+  pub falls : (i : ℕ) → shape i .kind ≡ 18 → shape i .content < i
+
+-- at each of these offsets a declared cell stands
+pub record Listed (s os : List ℕ) : Type 0 where
+  pub there : (i : ℕ) → i < length os → cellFound s (getD os i 0) ≡ CellThere (declaredAt s (getD os i 0))
+
+-- the bounds, starts and lengths of the blocks of a book that can be read
+pub record Laid (s bounds starts lengths : List ℕ) : Type 0 where
+  pub short : length s ≤ 32768
+  pub whole : cutFault s ≡ Nowhere
+  pub bound : bounds ≡ map (boundAt s) (blocksOf s)
+  pub start : starts ≡ map startAt (blocksOf s)
+  pub long : lengths ≡ map (lengthAt s) (blocksOf s)

@@ -1,11 +1,13 @@
 -- Tests, and what tests pick from a list.
 --     if_then_else_, both, either     cases on tests
+--     onSome                          on what may be missing
 --     those, while                    the members that pass; those before the first that does not
 --     sweep, first                    the first member at fault
 -- Assumes nothing.
 use Prim.Native.Nat.{ℕ}
 use mathlib.Core.Bool.{Bool, true, false}
 use mathlib.Core.List.{List, [], _∷_}
+use mathlib.Core.Option.{Option, none, some}
 use Rattle.book.specs.declared.Fault.{Fault}
 use Rattle.book.specs.declared.Fault.the-variants.{Nowhere, At}
 
@@ -21,6 +23,10 @@ both false b = false
 unfoldable pub either : Bool → Bool → Bool
 either true b = true
 either false b = b
+
+unfoldable pub onSome : {A X : Type 0} → Option A → X → (A → X) → X
+onSome none x f = x
+onSome (some a) x f = f a
 
 unfoldable pub those : (ℕ → Bool) → List ℕ → List ℕ
 those f [] = []

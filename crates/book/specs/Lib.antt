@@ -6,4 +6,5 @@ pub mod Book
 pub mod Refusals
 pub mod Outline
 pub mod Stretch
+pub mod Samples
 pub mod Asked

@@ -18,6 +18,13 @@ fn wide(b: u8) -> u32
     b as u32
 }
 
+// An offset of an outline's tables.
+pub fn offset_of(x: u16) -> usize
+    ensures { λ r. ⌜ r ≡ x ⌝ }
+{
+    x as usize
+}
+
 // A number of 4 bytes, little-endian.
 pub fn number(s: &[u8], o: usize) -> u32
     requires { ⌜ o ≤ length (now s) + 4 ⌝ }

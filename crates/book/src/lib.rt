@@ -15,6 +15,7 @@ pub use decode::value_of;
 pub use fields::byte;
 pub use fields::group_of;
 pub use fields::number;
+pub use fields::offset_of;
 use labels::Label;
 use labels::Trust;
 pub use naming::value_named;

@@ -60,7 +60,7 @@ pub fn answer(v: Verdict) {
 
 // Checks a book and prints its verdict.
 pub fn verdict(book: &[u8]) {
-    answer(typing::check(book));
+    answer(checking::check(book));
 }
 
 fn wide(b: u8) -> usize

@@ -16,12 +16,12 @@ use Rattle.labels.specs.Labels.{isMet}
 use Rattle.book.specs.declared.Value.{Value}
 use Rattle.book.specs.declared.Value.the-variants.{Plain, CellName, CodeName}
 use Rattle.book.specs.declared.Declared.{Declared}
-use Rattle.book.specs.Control.{both}
+use Rattle.book.specs.Control.{both, onSome}
 use Rattle.book.specs.Book.{Book, Block}
 use Rattle.book.proofs.Every.{All}
 use Rattle.book.proofs.Tests.{both-left, both-right}
 use Rattle.typing.specs.declared.Known.the-variants as N
-use Rattle.typing.specs.Shapes.{viewOf, onSome, isCell, contentOf, trustOf, highTrust, fits, knownValue, declaredOk}
+use Rattle.typing.specs.Shapes.{viewOf, isCell, contentOf, trustOf, highTrust, fits, knownValue, declaredOk}
 use Rattle.machine.specs.Histories.{sources}
 use Rattle.machine.specs.Events.{blockOf, launchLabel, declared, freshState}
 use Rattle.integrity.proofs.Trees.{Grounded, Tree, cell, tree-cell, tree-trust}

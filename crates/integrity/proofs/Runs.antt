@@ -10,10 +10,11 @@ use lib.ListN.{set, getElem?, drop}
 use borrow.Author.Tests.{not-true, leb-true}
 use Rattle.labels.specs.declared.Label.{Label}
 use Rattle.book.specs.declared.Step.{Step}
+use Rattle.book.specs.Control.{onSome}
 use Rattle.book.specs.Book.{Book}
 use Rattle.book.proofs.Every.{all-set, all-at, all-map}
 use Rattle.book.proofs.Tests.{clash, both-left, both-right}
-use Rattle.typing.specs.Shapes.{viewOf, onSome}
+use Rattle.typing.specs.Shapes.{viewOf}
 use Rattle.typing.specs.Rules.{Typed, breaks}
 use Rattle.machine.specs.declared.Event.{Event}
 use Rattle.machine.specs.declared.Event.the-variants.{StepOf, WriteBy, RelabelBy, NewBy, ExecBy, StartBy}

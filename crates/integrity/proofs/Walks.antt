@@ -10,11 +10,10 @@ use Rattle.labels.specs.declared.Label.{Label}
 use Rattle.book.specs.declared.Value.{Value}
 use Rattle.book.specs.declared.Value.the-variants.{Plain, CellName, CodeName}
 use Rattle.book.specs.Book.{Book}
-use Rattle.book.specs.Control.{if_then_else_}
+use Rattle.book.specs.Control.{if_then_else_, onSome}
 use Rattle.typing.specs.declared.Known.{Known}
 use Rattle.typing.specs.declared.Known.the-variants as N
 use Rattle.typing.specs.declared.State as T
-use Rattle.typing.specs.Shapes.{onSome}
 use Rattle.typing.specs.Rules.{Typed, passes, stuck, breaks, need, free}
 use Rattle.typing.specs.Rules as R
 use Rattle.machine.specs.States.{Job}

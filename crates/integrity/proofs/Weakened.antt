@@ -6,14 +6,14 @@ use Prim.Native.Nat.{ℕ, zero, suc}
 use mathlib.Core.Path.{refl}
 use mathlib.Core.List.{List, [], _∷_, _++_}
 use Rattle.labels.specs.Labels.{label, lower, normal, capped}
-use Rattle.book.specs.Control.{both, either, those, while, sweep}
+use Rattle.book.specs.Control.{both, either, those, while, sweep, onSome}
 use Rattle.book.specs.Kinds.{span, limits, group}
 use Rattle.book.specs.Spans.{cutBy, offsetsIn, offsetsBy}
 use Rattle.book.specs.Records.{numberAt}
 use Rattle.book.specs.Book.{groupOf, stepsFrom, shapeAt, valueOf, declaredAt, stepAt, blockAt, parse}
 use Rattle.book.specs.Refusals.{cutFault, inOrder, misplaced, orderFault, counted, tooMany, beyond, countFault, above, outOfRange, rangeFault, valueNamed, cellNamed, stepNamed, dangling, dangles, nameFault, orRefuse, unreadable}
 use Rattle.book.specs.Outline.{stepCount}
-use Rattle.typing.specs.Shapes.{viewOf, onSome, alikeIn, alike, knownOf, fits, knownValue, declaredOk}
+use Rattle.typing.specs.Shapes.{viewOf, alikeIn, alike, knownOf, fits, knownValue, declaredOk}
 use Rattle.typing.specs.Rules.{need, free, isPlainly, fresh, known, addable, holds, lowStep, highStep, step, fault}
 use Rattle.typing.specs.Rules as R
 use Rattle.typing.specs.Verdict.{cellFault, orThen, blockFault, stepFault, orRefused, typed, verdictOf}

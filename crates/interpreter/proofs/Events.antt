@@ -13,10 +13,10 @@ use Rattle.labels.specs.declared.Label.{Label}
 use Rattle.book.specs.declared.Shape.{Shape}
 use Rattle.book.specs.declared.StepAt.{StepAt}
 use Rattle.book.specs.declared.StepAt.the-variants.{NoStep, StepThere}
+use Rattle.book.specs.Control.{onSome}
 use Rattle.book.specs.Book.{parse}
 use Rattle.book.specs.Refusals.{noShape}
 use Rattle.book.specs.Stretch.{stepFound}
-use Rattle.typing.specs.Shapes.{onSome}
 use Rattle.machine.specs.Control.{given}
 use Rattle.machine.specs.declared.Event.{Event}
 use Rattle.machine.specs.declared.Event.the-variants.{StepOf, WriteBy, RelabelBy, NewBy, ExecBy, StartBy}
@@ -27,7 +27,7 @@ use Rattle.acts.specs.declared.Cell.{Cell}
 use Rattle.acts.specs.declared.Job.{Job}
 use Rattle.acts.specs.Views.{jobOf}
 use Rattle.acts.specs.Outside.{lowCellShape, suchValue, suchWrite, suchRelabel, suchNew, suchNumber, such, outside}
-use Rattle.typing.proofs.CellRules.{at-none}
+use Rattle.book.proofs.Lists.{at-none}
 use Rattle.interpreter.specs.declared.Plan.{Plan}
 use Rattle.interpreter.specs.declared.Plan.the-variants.{Halt, Take, Act}
 use Rattle.interpreter.specs.declared.Deed.{Deed}

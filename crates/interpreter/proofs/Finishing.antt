@@ -23,7 +23,7 @@ use Rattle.book.specs.Book.{parse, blocksOf, blockAt}
 use Rattle.book.specs.Refusals.{noShape, unreadable}
 use Rattle.book.specs.Outline.{outlineOf, boundAt, shapeIn, readingOf, reading}
 use Rattle.book.proofs.Blocks.{get-pad}
-use Rattle.typing.proofs.Tables.{shape-is, cells-are, starts-are, drawn-cell, drawn-start}
+use Rattle.book.proofs.Outlines.{shape-is, cells-are, starts-are, drawn-cell, drawn-start}
 use Rattle.machine.specs.Histories.{lists, sources, source}
 use Rattle.machine.specs.States.{State}
 use Rattle.machine.specs.Events.{tableSize, noBlock, launchLabel, freshState, stateAfter, answers}

@@ -16,14 +16,13 @@ use Rattle.labels.specs.declared.Label.{Label}
 use Rattle.book.specs.declared.Step.{Step}
 use Rattle.book.specs.declared.Step.the-variants.{Put, Name, Code, Add, New, Read, Write, Relabel, Lower, Start, Exec}
 use Rattle.book.specs.declared.StepAt.the-variants.{NoStep, StepThere}
-use Rattle.book.specs.Control.{both}
+use Rattle.book.specs.Control.{both, onSome}
 use Rattle.book.specs.Records.{next}
 use Rattle.book.specs.Book.{parse, stepAt, stepsFrom}
 use Rattle.book.specs.Stretch.{stepFound}
 use Rattle.book.proofs.Records.{walk}
 use Rattle.book.proofs.Steps.{steps-end, steps-none, steps-more}
-use Rattle.typing.specs.Shapes.{onSome}
-use Rattle.typing.proofs.Walks.{there, no, Stood}
+use Rattle.book.proofs.Standing.{there, no, Stood}
 use Rattle.machine.specs.declared.Event.{Event}
 use Rattle.machine.specs.declared.Event.the-variants.{StepOf}
 use Rattle.machine.specs.Histories.{sources}

@@ -16,8 +16,8 @@ use Rattle.book.specs.Book.{parse, cellsOf, declaredAt}
 use Rattle.book.specs.Stretch.{cellFound}
 use Rattle.book.proofs.Limits.{most-cells}
 use Rattle.book.proofs.Readable.{readable}
-use Rattle.typing.specs.Asked.{Listed}
-use Rattle.typing.proofs.Tables.{listed}
+use Rattle.book.specs.Asked.{Listed}
+use Rattle.book.proofs.Outlines.{listed}
 use Rattle.machine.specs.Histories.{sources}
 use Rattle.machine.specs.States as States
 use Rattle.machine.specs.Acts.{freshJob}

@@ -19,7 +19,7 @@ use Rattle.book.proofs.Records.{records-end}
 use Rattle.book.proofs.Steps.{steps-end}
 use Rattle.book.proofs.Blocks.{nth}
 use Rattle.book.proofs.Readable.{readable}
-use Rattle.typing.proofs.BookRules.{block}
+use Rattle.book.proofs.Stretches.{block}
 use Rattle.machine.specs.Events.{noBlock, blockOf}
 use Rattle.acts.specs.declared.Job.{Job}
 use Rattle.interpreter.specs.Loop.{Placed, startIn}

@@ -10,7 +10,7 @@ use labels::Label;
 ghost use mathlib.Core.Path.{_≡_};
 ghost use Prim.Native.Nat.{_≤_};
 ghost use lib.ListN.{length, take};
-ghost use Rattle.typing.specs.Asked.{Listed};
+ghost use Rattle.book.specs.Asked.{Listed};
 ghost use Rattle.interpreter.specs.Loop.{openedBy, openedCells, First};
 
 // A declared cell: its value's history is 15.
@@ -45,7 +45,7 @@ pub fn open_cells(book: &[u8], offsets: &[u16]) -> [Cell; Job::TABLE_SIZE]
     let mut cells = [none; Job::TABLE_SIZE];
     let mut i: usize = 0;
     while i < offsets.len() {
-        let o = typing::offset_of(offsets[i]);
+        let o = book::offset_of(offsets[i]);
         let CellAt::CellThere(d) = book::cell_at(book, o) else {
             return cells;
         };

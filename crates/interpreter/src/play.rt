@@ -19,7 +19,7 @@ pub fn start_of(starts: &[u16], block: u32, end: usize) -> usize
 {
     let i = block as usize;
     if i < starts.len() {
-        return typing::offset_of(starts[i]);
+        return book::offset_of(starts[i]);
     }
     end
 }

@@ -42,7 +42,7 @@ fn list_refused(book: &[u8], number: u8, place: usize) {
 }
 
 fn list(book: &[u8]) {
-    let verdict = typing::check(book);
+    let verdict = checking::check(book);
     match verdict {
         Verdict::Refused { number, place } => list_refused(book, number, place),
         Verdict::Accepted {

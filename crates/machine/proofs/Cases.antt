@@ -7,7 +7,7 @@ use mathlib.Core.Option.{Option, none, some}
 use Prim.Native.Nat.{ℕ}
 use Rattle.book.specs.declared.Value.{Value}
 use Rattle.book.specs.declared.Value.the-variants.{Plain, CellName, CodeName}
-use Rattle.typing.specs.Shapes.{onSome}
+use Rattle.book.specs.Control.{onSome}
 use Rattle.machine.specs.Control.{given, onPlain, onCell, onCode}
 
 -- of the branch x, where no test holds, and of the other

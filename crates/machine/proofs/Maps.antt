@@ -10,7 +10,7 @@ use Prim.Native.Nat.{ℕ, zero, suc}
 use lib.ListN.{set, getElem?}
 use Rattle.book.specs.declared.Value.{Value}
 use Rattle.book.specs.declared.Value.the-variants.{Plain, CellName, CodeName}
-use Rattle.typing.specs.Shapes.{onSome}
+use Rattle.book.specs.Control.{onSome}
 use Rattle.machine.specs.Control.{given, onPlain, onCell, onCode}
 
 module _ {A B : Type 0} (f : A → B) where

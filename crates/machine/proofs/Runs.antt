@@ -2,14 +2,13 @@
 -- Assumes nothing.
 use mathlib.Core.Path.{refl}
 use Rattle.labels.specs.Labels.{lower}
-use Rattle.book.specs.Control.{both, those, while}
+use Rattle.book.specs.Control.{both, those, while, onSome}
 use Rattle.book.specs.Kinds.{span, limits, group}
 use Rattle.book.specs.Spans.{cutBy, offsetsIn, offsetsBy}
 use Rattle.book.specs.Records.{numberAt}
 use Rattle.book.specs.Control.{either}
 use Rattle.book.specs.Book.{groupOf, stepsFrom, shapeAt, valueOf, declaredAt, stepAt, blockAt, parse}
 use Rattle.book.specs.Refusals.{valueNamed}
-use Rattle.typing.specs.Shapes.{onSome}
 use Rattle.machine.specs.Control.{given, onPlain, onCell, onCode}
 use Rattle.machine.specs.Acts.{execLabel, writing, relabelling, making, starting, executing}
 use Rattle.machine.specs.Steps.{sum, adding, reading, lowering, turnOf}

@@ -13,8 +13,7 @@ use lib.ListN.{length, replicate, getElem?}
 use Rattle.labels.specs.declared.Label.{Label}
 use Rattle.labels.specs.Labels.{lower, reaches}
 use Rattle.book.specs.declared.Value.the-variants.{Plain}
-use Rattle.book.specs.Control.{both}
-use Rattle.typing.specs.Shapes.{onSome}
+use Rattle.book.specs.Control.{both, onSome}
 use Rattle.machine.specs.Control.{given, onCode}
 use Rattle.machine.specs.Histories.{Histories}
 use Rattle.machine.specs.States.{Traced, Cell, Job, State}

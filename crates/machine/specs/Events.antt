@@ -13,12 +13,11 @@ use Rattle.labels.specs.declared.Label.{Label}
 use Rattle.labels.specs.declared.Trust.{Trust}
 use Rattle.labels.specs.Labels.{label, reaches, isHigh}
 use Rattle.book.specs.declared.Declared.{Declared}
-use Rattle.book.specs.Control.{both}
+use Rattle.book.specs.Control.{both, onSome}
 use Rattle.book.specs.Book.{Book, Block, valueOf}
 use Rattle.book.specs.Refusals.{noShape, hasCellShape, valueNamed}
 use Rattle.machine.specs.declared.Event.{Event}
 use Rattle.machine.specs.declared.Event.the-variants.{StepOf, WriteBy, RelabelBy, NewBy, ExecBy, StartBy}
-use Rattle.typing.specs.Shapes.{onSome}
 use Rattle.machine.specs.Control.{given}
 use Rattle.machine.specs.Histories.{Histories}
 use Rattle.machine.specs.States.{Traced, Cell, State}

@@ -10,7 +10,7 @@ use Rattle.labels.specs.Labels.{label, trust}
 use Rattle.book.specs.declared.Value.{Value}
 use Rattle.book.specs.declared.Value.the-variants.{Plain, CodeName}
 use Rattle.book.specs.Book.{Book, parse}
-use Rattle.typing.specs.Samples.{bookA, write}
+use Rattle.book.specs.Samples.{bookA, write}
 use Rattle.machine.specs.declared.Event.{Event}
 use Rattle.machine.specs.declared.Event.the-variants.{StepOf, WriteBy, RelabelBy, NewBy, ExecBy, StartBy}
 use Rattle.machine.specs.Histories.{History, hands, lists}

@@ -14,7 +14,8 @@ use Rattle.labels.specs.declared.Label.{Label}
 use Rattle.labels.specs.declared.Trust.{Trust}
 use Rattle.labels.specs.Labels.{label, reaches, isMet, covers, capped}
 use Rattle.book.specs.declared.Shape.{Shape}
-use Rattle.book.specs.Control.{both, either}
+use Rattle.book.specs.Control.{both, either, onSome}
+use Rattle.book.proofs.Lists.{at-some, at-none}
 use Rattle.typing.specs.declared.Known.{Known}
 use Rattle.typing.specs.declared.Known.the-variants.{Unknown, Plain, Code, CellOf}
 use Rattle.typing.specs.declared.Cell.{Cell}
@@ -22,19 +23,9 @@ use Rattle.typing.specs.declared.Cell.the-variants.{Of, No}
 use Rattle.typing.specs.declared.Register.{Register}
 use Rattle.typing.specs.declared.State.{State}
 use Rattle.typing.specs.declared.Stepped.{Stepped}
-use Rattle.typing.specs.Shapes.{onSome, contentOf, trustOf, highTrust, knownOf, fits}
+use Rattle.typing.specs.Shapes.{contentOf, trustOf, highTrust, knownOf, fits}
 use Rattle.typing.specs.Rules.{Typed, passes, stuck, breaks, need, free, onCell, onCode, register, gives, givesLow, used, known, holds, naming, coding, making, readFrom, reading, writing, relabelling, executing, starting}
 use Rattle.typing.specs.Asked.{labelled, told, cellOn}
-
-pub at-some : (l : List ℕ) (i : ℕ) → i < length l → getElem? l i ≡ some (getD l i 0)
-at-some [] i h = absurd (omega arith)
-at-some (x ∷ xs) zero h = refl
-at-some (x ∷ xs) (suc i) h = at-some xs i (omega arith)
-
-pub at-none : {A : Type 0} (l : List A) (i : ℕ) → length l ≤ i → getElem? l i ≡ none
-at-none [] i h = refl
-at-none (x ∷ xs) zero h = absurd (omega arith)
-at-none (x ∷ xs) (suc i) h = at-none xs i (omega arith)
 
 -- x is what the code hands back
 module _ (c : Label) (shape : ℕ → Shape) (s : State) (r : ℕ) (cells : List ℕ) (k : ℕ) (x : Stepped) where

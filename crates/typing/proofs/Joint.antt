@@ -2,14 +2,14 @@
 -- Assumes nothing.
 use mathlib.Core.Path.{refl}
 use Rattle.labels.specs.Labels.{lower, normal, capped}
-use Rattle.book.specs.Control.{both, either, those, while, sweep}
+use Rattle.book.specs.Control.{both, either, those, while, sweep, onSome}
 use Rattle.book.specs.Kinds.{span, limits, group}
 use Rattle.book.specs.Spans.{cutBy, offsetsIn, offsetsBy}
 use Rattle.book.specs.Records.{numberAt}
 use Rattle.book.specs.Book.{groupOf, stepsFrom, shapeAt, valueOf, declaredAt, stepAt, blockAt, parse}
 use Rattle.book.specs.Refusals.{cutFault, inOrder, misplaced, orderFault, counted, tooMany, beyond, countFault, above, outOfRange, rangeFault, valueNamed, cellNamed, stepNamed, dangling, dangles, nameFault, orRefuse, unreadable}
 use Rattle.book.specs.Outline.{stepCount}
-use Rattle.typing.specs.Shapes.{viewOf, onSome, alikeIn, alike, knownOf, fits, knownValue, declaredOk}
+use Rattle.typing.specs.Shapes.{viewOf, alikeIn, alike, knownOf, fits, knownValue, declaredOk}
 use Rattle.typing.specs.Rules.{need, free, onCell, onCode, isPlainly, fresh, known, lowering, addable, holds, lowStep, highStep, step, fault}
 use Rattle.typing.specs.Verdict.{cellFault, orThen, blockFault, stepFault, orRefused, typed, verdictOf}
 use Rattle.typing.specs.Samples.{Samples}

@@ -3,8 +3,5 @@ pub mod Likes
 pub mod Told
 pub mod CellRules
 pub mod Dispatch
-pub mod Walks
 pub mod DeclaredRules
-pub mod BookRules
-pub mod Tables
 pub mod Bounds

@@ -14,11 +14,12 @@ use Rattle.labels.specs.declared.Trust.{Trust}
 use Rattle.labels.specs.Labels.{reaches, isHigh, normal}
 use Rattle.book.specs.declared.Shape.{Shape}
 use Rattle.book.specs.Control.{both, either}
+use Rattle.book.specs.Asked.{Sound}
 use Rattle.book.proofs.Tests.{either-false}
 use Rattle.typing.specs.declared.Known.{Known}
 use Rattle.typing.specs.declared.Known.the-variants.{Unknown, Plain, Code, CellOf}
 use Rattle.typing.specs.Shapes.{isPlain, isCode, isCell, boundOf, contentOf, trustOf, highTrust, alikeIn, alike, knownOf, fits}
-use Rattle.typing.specs.Asked.{Sound, plainShape}
+use Rattle.typing.specs.Asked.{plainShape}
 
 module _ (x : Shape) where
   pub plain-code : x .kind ≡ 17 → false ≡ plainShape x

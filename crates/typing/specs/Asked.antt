@@ -1,29 +1,19 @@
--- What the functions inside this crate ask of their callers, and how they hand a rule's answer back.
---     Sound                contents are lower-numbered
---     tableView, knownIn   what typing asks of a book, from an outline's tables
+-- What typing asks of a book, from an outline's tables, and how the code hands a rule's answer back.
+--     tableView, knownIn   what typing asks of a book, from the tables
 --     told, cellOn         a rule's answer; a known shape that is a cell
---     Listed               offsets of declared cells
---     stretchFault, Laid   a block's stretch; where the blocks' stretches are
 -- Assumes nothing.
-use mathlib.Core.Path.{_≡_}
 use mathlib.Core.Bool.{Bool, not}
-use mathlib.Core.List.{List, map}
+use mathlib.Core.List.{List}
 use mathlib.Core.Option.{Option, none, some}
-use Prim.Native.Nat.{ℕ, _+_, _<_, _≤_}
+use Prim.Native.Nat.{ℕ}
 use lib.Dec.{eqb}
-use lib.ListN.{length, getD, getElem?}
+use lib.ListN.{getElem?}
 use Rattle.labels.specs.declared.Label.{Label}
 use Rattle.labels.specs.Labels.{label}
 use Rattle.book.specs.declared.Shape.{Shape}
 use Rattle.book.specs.declared.Value.{Value}
 use Rattle.book.specs.Control.{both}
-use Rattle.book.specs.declared.Fault.{Fault}
-use Rattle.book.specs.declared.Fault.the-variants.{Nowhere, At}
-use Rattle.book.specs.Refusals.{cutFault}
-use Rattle.book.specs.declared.CellAt.the-variants.{CellThere}
-use Rattle.book.specs.Book.{blocksOf, declaredAt, stepAt, stepsFrom}
-use Rattle.book.specs.Stretch.{cellFound}
-use Rattle.book.specs.Outline.{shapeIn, boundAt, startAt, lengthAt}
+use Rattle.book.specs.Outline.{shapeIn}
 use Rattle.typing.specs.declared.Known.{Known}
 use Rattle.typing.specs.declared.Known.the-variants.{Unknown, Plain, Code, CellOf}
 use Rattle.typing.specs.declared.Cell.{Cell}
@@ -32,11 +22,7 @@ use Rattle.typing.specs.declared.State.{State}
 use Rattle.typing.specs.declared.Stepped.{Stepped}
 use Rattle.typing.specs.declared.Stepped.the-variants.{Passes, Gives, Lowers, Stuck, Breaks}
 use Rattle.typing.specs.Shapes.{View, knownValue}
-use Rattle.typing.specs.Rules.{Typed, passes, stuck, breaks, gives, lowered, fresh, fault}
-
--- contents are lower-numbered: refusal 6
-pub record Sound (shape : ℕ → Shape) : Type 0 where
-  pub falls : (i : ℕ) → shape i .kind ≡ 18 → shape i .content < i
+use Rattle.typing.specs.Rules.{Typed, passes, stuck, breaks, gives, lowered}
 
 abbrev pub plainShape : Shape → Bool
 plainShape x = both (not (eqb (x .kind) 17)) (not (eqb (x .kind) 18))
@@ -68,24 +54,3 @@ cellOn Unknown = No
 cellOn Plain = No
 cellOn (Code b) = No
 cellOn (CellOf i) = Of i
-
--- at each of these offsets a declared cell stands
-pub record Listed (s os : List ℕ) : Type 0 where
-  pub there : (i : ℕ) → i < length os → cellFound s (getD os i 0) ≡ CellThere (declaredAt s (getD os i 0))
-
--- a fault of a stretch that starts at a
-unfoldable pub shifted : ℕ → Fault → Fault
-shifted a Nowhere = Nowhere
-shifted a (At o) = At (a + o)
-
--- the first step of a stretch w that breaks its rule, by its offset in the book, where w starts at a
-unfoldable pub stretchFault : View → List ℕ → ℕ → Label → Fault
-stretchFault B w a b = shifted a (fault B (stepAt w) (fresh b) (stepsFrom w 0))
-
--- the bounds, starts and lengths of the blocks of a book that can be read
-pub record Laid (s bounds starts lengths : List ℕ) : Type 0 where
-  pub short : length s ≤ 32768
-  pub whole : cutFault s ≡ Nowhere
-  pub bound : bounds ≡ map (boundAt s) (blocksOf s)
-  pub start : starts ≡ map startAt (blocksOf s)
-  pub long : lengths ≡ map (lengthAt s) (blocksOf s)

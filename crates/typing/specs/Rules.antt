@@ -17,12 +17,12 @@ use Rattle.book.specs.declared.Shape.{Shape}
 use Rattle.book.specs.declared.Step.{Step}
 use Rattle.book.specs.declared.Step.the-variants.{Put, Name, Add, New, Read, Write, Relabel, Lower, Start, Exec}
 use Rattle.book.specs.declared.Step.the-variants as S
-use Rattle.book.specs.Control.{if_then_else_, both, either}
+use Rattle.book.specs.Control.{if_then_else_, both, either, onSome}
 use Rattle.typing.specs.declared.Known.{Known}
 use Rattle.typing.specs.declared.Known.the-variants.{Unknown, Plain, Code, CellOf}
 use Rattle.typing.specs.declared.Register.{Register}
 use Rattle.typing.specs.declared.State.{State}
-use Rattle.typing.specs.Shapes.{View, onSome, isCell, contentOf, trustOf, highTrust, knownOf, fits}
+use Rattle.typing.specs.Shapes.{View, isCell, contentOf, trustOf, highTrust, knownOf, fits}
 
 -- the state after the step; stuck; or the rule is broken
 pub data Typed : Type 0 where

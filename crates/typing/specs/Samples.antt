@@ -1,32 +1,10 @@
--- The sample books of 01, "Sample books", and what the joint lemma says of them.
+-- What the joint lemma says of the sample books of 01, "Sample books".
 -- Assumes nothing.
-use Prim.Native.Nat.{ℕ}
 use mathlib.Core.Path.{_≡_}
-use mathlib.Core.List.{List, [], _∷_}
+use mathlib.Core.List.{[], _∷_}
+use Rattle.book.specs.Samples.{bookA, write, relabel, new}
 use Rattle.typing.specs.declared.Verdict.the-variants.{Accepted, Refused}
 use Rattle.typing.specs.Verdict.{verdict}
-
--- book A with this trust, cell label and bound, and these bytes from its last step on
-abbrev pub bookA : ℕ → ℕ → ℕ → List ℕ → List ℕ
-bookA trust label bound last =
-    0x01 ∷ 0x03
-    ∷ 0x10
-    ∷ 0x12 ∷ 0x00 ∷ trust
-    ∷ 0x20 ∷ 0x01 ∷ label ∷ 0x00 ∷ 0x05 ∷ 0x00 ∷ 0x00 ∷ 0x00
-    ∷ 0x30 ∷ bound
-    ∷ 0x41 ∷ 0x00 ∷ 0x00
-    ∷ 0x40 ∷ 0x01 ∷ 0x07 ∷ 0x00 ∷ 0x00 ∷ 0x00
-    ∷ last
-
--- write 0, 1; relabel 0 to a label; new 2, shape 1, 1
-abbrev pub write : List ℕ
-write = 0x46 ∷ 0x00 ∷ 0x01 ∷ []
-
-abbrev pub relabel : ℕ → List ℕ
-relabel o = 0x47 ∷ 0x00 ∷ o ∷ []
-
-abbrev pub new : List ℕ
-new = 0x44 ∷ 0x02 ∷ 0x01 ∷ 0x01 ∷ []
 
 pub record Samples : Type 0 where
   pub a1 : verdict (bookA 0x09 0x09 0x0C write) ≡ Accepted 2 1 1 3

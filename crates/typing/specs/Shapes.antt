@@ -6,7 +6,7 @@
 use Prim.Native.Nat.{ℕ, zero, suc}
 use mathlib.Core.Bool.{Bool, true, false, not}
 use mathlib.Core.List.{map}
-use mathlib.Core.Option.{Option, none, some}
+use mathlib.Core.Option.{Option}
 use lib.Dec.{eqb}
 use lib.ListN.{getD, getElem?}
 use Rattle.labels.specs.declared.Label.{Label}
@@ -17,7 +17,7 @@ use Rattle.book.specs.declared.Value.{Value}
 use Rattle.book.specs.declared.Value.the-variants.{CellName, CodeName}
 use Rattle.book.specs.declared.Value.the-variants as Values
 use Rattle.book.specs.declared.Declared.{Declared}
-use Rattle.book.specs.Control.{if_then_else_, both, either}
+use Rattle.book.specs.Control.{if_then_else_, both, either, onSome}
 use Rattle.book.specs.Book.{Book, Block}
 use Rattle.book.specs.Refusals.{noShape}
 use Rattle.typing.specs.declared.Known.{Known}
@@ -38,10 +38,6 @@ viewOf K =
       cell = λ k. getElem? (map (λ (d : Declared). d .shape) (K .cells)) k;
       bound = λ b. getElem? (map (λ (b : Block). b .bound) (K .blocks)) b;
     }
-
-unfoldable pub onSome : {A X : Type 0} → Option A → X → (A → X) → X
-onSome none x f = x
-onSome (some a) x f = f a
 
 -- over C and the shapes by their numbers
 module _ (c : Label) (shape : ℕ → Shape) where

@@ -9,8 +9,9 @@ use labels::Label;
 ghost use mathlib.Core.Path.{_≡_};
 ghost use lib.ListN.{getElem?};
 ghost use Rattle.book.specs.Outline.{shapeIn};
+ghost use Rattle.book.specs.Asked.{Sound};
 ghost use Rattle.typing.specs.Rules.{known, holds, naming, coding, making, readFrom, reading, writing, relabelling, executing, starting};
-ghost use Rattle.typing.specs.Asked.{Sound, labelled, told, cellOn};
+ghost use Rattle.typing.specs.Asked.{labelled, told, cellOn};
 
 pub fn name_step(shapes: &[u8], cells: &[u8], c: Label, s: State, r: u8, k: u8) -> Stepped
     ensures { λ x. ⌜ told s x ≡ naming c (shapeIn (now (shapes .entry))) s r (getElem? (now (cells .entry)) k) ⌝ }

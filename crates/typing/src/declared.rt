@@ -1,16 +1,14 @@
-// The declared cells: refusal 7.
+// The typing rule of a declared cell.
 use crate::Known;
 use crate::shapes;
-use book::CellAt;
 use book::Declared;
-use book::Fault;
 use book::Value;
 use labels::Label;
 ghost use mathlib.Core.Path.{_≡_};
 ghost use Rattle.book.specs.Outline.{shapeIn};
+ghost use Rattle.book.specs.Asked.{Sound};
 ghost use Rattle.typing.specs.Shapes.{declaredOk};
-ghost use Rattle.typing.specs.Verdict.{cellFault};
-ghost use Rattle.typing.specs.Asked.{Sound, Listed, tableView, knownIn};
+ghost use Rattle.typing.specs.Asked.{tableView, knownIn};
 
 // What is known of a declared value.
 fn known_value(owners: &[u8], bounds: &[u8], v: Value) -> Known
@@ -36,7 +34,7 @@ fn known_value(owners: &[u8], bounds: &[u8], v: Value) -> Known
 }
 
 // A declared cell meets its rule.
-fn is_declared_ok(table: &[u8], owners: &[u8], bounds: &[u8], c: Label, d: Declared) -> bool
+pub fn is_declared_ok(table: &[u8], owners: &[u8], bounds: &[u8], c: Label, d: Declared) -> bool
     requires { ⌜ Sound (shapeIn (now table)) ⌝ }
     ensures { λ r. ⌜ r ≡ declaredOk (tableView c (now (table .entry)) (now (owners .entry)) (now (bounds .entry))) d ⌝ }
 {
@@ -53,38 +51,4 @@ fn is_declared_ok(table: &[u8], owners: &[u8], bounds: &[u8], c: Label, d: Decla
         return false;
     }
     true
-}
-
-// An offset of an outline's tables.
-pub fn offset_of(x: u16) -> usize
-    ensures { λ r. ⌜ r ≡ x ⌝ }
-{
-    x as usize
-}
-
-// The first declared cell that breaks its rule.
-pub fn cell_fault(
-    book: &[u8],
-    table: &[u8],
-    owners: &[u8],
-    bounds: &[u8],
-    c: Label,
-    cells: &[u16],
-) -> Fault
-    requires { ⌜ Sound (shapeIn (now table)) × Listed (now book) (now cells) ⌝ }
-    ensures { λ r. ⌜ r ≡ cellFault (tableView c (now (table .entry)) (now (owners .entry)) (now (bounds .entry))) (now (book .entry)) (now (cells .entry)) ⌝ }
-{
-    let mut i: usize = 0;
-    while i < cells.len() {
-        let o = offset_of(cells[i]);
-        let CellAt::CellThere(d) = book::cell_at(book, o) else {
-            return Fault::Nowhere;
-        };
-        if is_declared_ok(table, owners, bounds, c, d) {
-            i = i + 1;
-        } else {
-            return Fault::At(o);
-        }
-    }
-    Fault::Nowhere
 }

@@ -41,7 +41,7 @@ pub struct Ran {
 pub extern "C" fn xemdulba_check(book: &[u8]) -> Checked
     ensures { λ r. ⌜ r ≡ checked (verdict (now (book .entry))) ⌝ }
 {
-    let v = typing::check(book);
+    let v = checking::check(book);
     match v {
         Verdict::Refused { number, place } => {
             let n = number as u32;

@@ -1,62 +1,32 @@
 -- Laws of the walk of a stretch, as the loop goes through it. z is what the whole walk gives.
 -- Assumes nothing.
-use mathlib.Core.Path.{_≡_, refl, sym, ap, _∙_}
-use mathlib.Core.Bool.{Bool, true, false}
+use mathlib.Core.Path.{_≡_, sym, ap, _∙_}
+use mathlib.Core.Bool.{true}
 use mathlib.Core.List.{List}
 use Prim.Native.Nat.{ℕ, _+_, _-_, _≤_, _<_}
 use native.Mathlib.Omega.{arith}
 use lib.ListN.{length, length-set, set}
 use lib.Seq.{set-out}
-use borrow.Author.Tests.{lt-ltb, eqb-true}
 use Rattle.labels.specs.declared.Label.{Label}
 use Rattle.book.specs.declared.Fault.{Fault}
 use Rattle.book.specs.declared.Fault.the-variants.{Nowhere, At}
 use Rattle.book.specs.declared.Step.{Step}
 use Rattle.book.specs.declared.StepAt.{StepAt}
 use Rattle.book.specs.declared.StepAt.the-variants.{NoStep, StepThere}
-use Rattle.book.specs.Control.{both}
-use Rattle.book.specs.Kinds.{group}
-use Rattle.book.specs.Records.{byteAt, next, inGroup}
 use Rattle.book.specs.Book.{stepAt, stepsFrom}
 use Rattle.book.specs.Stretch.{stepFound}
 use Rattle.book.specs.Asked.{Whole}
 use Rattle.book.proofs.Records.{walk}
 use Rattle.book.proofs.Steps.{steps-end, steps-none, steps-more}
+use Rattle.book.proofs.Standing.{Stood, there, no}
 use Rattle.typing.specs.declared.State.{State}
 use Rattle.typing.specs.declared.Register.{Register}
 use Rattle.typing.specs.declared.Stepped.{Stepped}
 use Rattle.typing.specs.declared.Stepped.the-variants.{Passes, Gives, Lowers, Stuck, Breaks}
 use Rattle.typing.specs.Shapes.{View}
 use Rattle.typing.specs.Rules.{Typed, passes, stuck, breaks, fresh, step, fault}
-use Rattle.typing.specs.Asked.{told, shifted, stretchFault}
-
--- what was found at o, in a stretch that is whole from there on
-pub record Stood (w : List ℕ) (o : ℕ) (p : Step) (n : ℕ) : Type 0 where
-  pub kind : group (byteAt w o) ≡ 5
-  pub is : p ≡ stepAt w o
-  pub on : n ≡ next w o
-
-module _ (w : List ℕ) (o : ℕ) (whole : Whole w o) (h : o < length w) (x : StepAt) (ex : x ≡ stepFound w o) where
-  pub no : x ≡ NoStep → group (byteAt w o) ≡ 5 → ⊥
-  unfolding stepFound both
-  no e g =
-      let k : inGroup w 5 o ≡ true = borrow.Author.Tests.eq-eqb _ _ g in
-      let y : StepThere (stepAt w o) (next w o) ≡ NoStep = sym (simp (lt-ltb _ _ h, k, walk w o whole h .uncut) at ex) ∙ e in
-      let z : _≡_ {A = ℕ} 0 1 = cc in
-      omega arith
-
-  pub there : (p : Step) (n : ℕ) → x ≡ StepThere p n → Stood w o p n
-  unfolding stepFound both
-  there p n e = go (inGroup w 5 o) refl
-    where
-      go : (b : Bool) → inGroup w 5 o ≡ b → Stood w o p n
-      go true k =
-          let y : StepThere (stepAt w o) (next w o) ≡ StepThere p n = sym (simp (lt-ltb _ _ h, k, walk w o whole h .uncut) at ex) ∙ e in
-          record { kind = eqb-true _ _ k; is = cc; on = cc }
-      go false k =
-          let y : NoStep ≡ StepThere p n = sym (simp (lt-ltb _ _ h, k) at ex) ∙ e in
-          let z : _≡_ {A = ℕ} 0 1 = cc in
-          absurd (omega arith)
+use Rattle.typing.specs.Asked.{told}
+use Rattle.checking.specs.Asked.{shifted, stretchFault}
 
 pub walk-start : (B : View) (w : List ℕ) (a : ℕ) (b : Label) (s : State) (z : Fault)
     → s ≡ fresh b → z ≡ shifted a (fault B (stepAt w) s (stepsFrom w 0)) → z ≡ stretchFault B w a b

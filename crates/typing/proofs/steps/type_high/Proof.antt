@@ -1,8 +1,8 @@
--- `blocks::type_high` meets its contract. Assumes nothing.
+-- `steps::type_high` meets its contract. Assumes nothing.
 use borrow.Author.Needs.{needs}
 use Rattle.typing.proofs.Dispatch.{highs}
-use Rattle.typing.proofs.blocks.type_high.Tie as tie
-use Rattle.typing.proofs.blocks.type_high.Statement.{statement}
+use Rattle.typing.proofs.steps.type_high.Tie as tie
+use Rattle.typing.proofs.steps.type_high.Statement.{statement}
 
 enum-known-p : tie.Need-enum-known-p
 enum-known-p c = search needs

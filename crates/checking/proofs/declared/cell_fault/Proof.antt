@@ -4,11 +4,11 @@ use mathlib.Core.Path.{_≡_, refl}
 use native.Mathlib.Omega.{arith}
 use lib.ListN.{length, drop}
 use borrow.Author.Needs.{needs}
 use Rattle.typing.specs.Asked.{tableView}
 use Rattle.typing.specs.Verdict.{cellFault}
-use Rattle.typing.proofs.DeclaredRules.{cells}
-use Rattle.typing.proofs.declared.cell_fault.Tie as tie
-use Rattle.typing.proofs.declared.cell_fault.Statement.{statement}
+use Rattle.checking.proofs.DeclaredCells.{cells}
+use Rattle.checking.proofs.declared.cell_fault.Tie as tie
+use Rattle.checking.proofs.declared.cell_fault.Statement.{statement}
 
 abbrev Inv-loop : tie.InvT-loop
 Inv-loop book table owners bounds c cells i₀ i = (i ≤ length cells) × (cellFault (tableView c table owners bounds) book (drop i cells) ≡ cellFault (tableView c table owners bounds) book cells)

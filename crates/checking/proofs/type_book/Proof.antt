@@ -1,8 +1,9 @@
 -- `type_book` meets its contract. Assumes nothing.
 use borrow.Author.Needs.{needs}
-use Rattle.typing.proofs.Tables.{drawns, types}
-use Rattle.typing.proofs.type_book.Tie as tie
-use Rattle.typing.proofs.type_book.Statement.{statement}
+use Rattle.book.proofs.Outlines.{drawns}
+use Rattle.checking.proofs.Tables.{types}
+use Rattle.checking.proofs.type_book.Tie as tie
+use Rattle.checking.proofs.type_book.Statement.{statement}
 
 sub-owners : tie.Need-sub-owners
 sub-owners c = search needs

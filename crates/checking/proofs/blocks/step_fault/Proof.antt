@@ -5,11 +5,12 @@ use native.Mathlib.Omega.{arith}
 use lib.ListN.{length, drop}
 use borrow.Author.Needs.{needs}
 use Rattle.book.specs.Book.{blocksOf}
 use Rattle.typing.specs.Asked.{tableView}
 use Rattle.typing.specs.Verdict.{stepFault}
-use Rattle.typing.proofs.BookRules.{laids, rounds, round-good}
-use Rattle.typing.proofs.blocks.step_fault.Tie as tie
-use Rattle.typing.proofs.blocks.step_fault.Statement.{statement}
+use Rattle.book.proofs.Stretches.{laids}
+use Rattle.checking.proofs.BookRules.{rounds, round-good}
+use Rattle.checking.proofs.blocks.step_fault.Tie as tie
+use Rattle.checking.proofs.blocks.step_fault.Statement.{statement}
 
 abbrev Inv-loop : tie.InvT-loop
 Inv-loop book table owners bounds c starts lengths i₀ i = (i ≤ length bounds) × (length bounds ≡ length starts) × (length bounds ≡ length lengths) × (stepFault (tableView c table owners bounds) book (drop i (blocksOf book)) ≡ stepFault (tableView c table owners bounds) book (blocksOf book))

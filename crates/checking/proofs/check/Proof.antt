@@ -1,8 +1,8 @@
 -- `check` meets its contract. Assumes nothing.
 use borrow.Author.Needs.{needs}
-use Rattle.typing.proofs.Tables.{answers}
-use Rattle.typing.proofs.check.Tie as tie
-use Rattle.typing.proofs.check.Statement.{statement}
+use Rattle.checking.proofs.Tables.{answers}
+use Rattle.checking.proofs.check.Tie as tie
+use Rattle.checking.proofs.check.Statement.{statement}
 
 read-requires : tie.Need-read-requires
 read-requires c κs = search needs

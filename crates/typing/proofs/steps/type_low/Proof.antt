@@ -1,8 +1,8 @@
--- `blocks::type_low` meets its contract. Assumes nothing.
+-- `steps::type_low` meets its contract. Assumes nothing.
 use borrow.Author.Needs.{needs}
 use Rattle.typing.proofs.Dispatch.{lows}
-use Rattle.typing.proofs.blocks.type_low.Tie as tie
-use Rattle.typing.proofs.blocks.type_low.Statement.{statement}
+use Rattle.typing.proofs.steps.type_low.Tie as tie
+use Rattle.typing.proofs.steps.type_low.Statement.{statement}
 
 enum-known-p : tie.Need-enum-known-p
 enum-known-p c = search needs

@@ -6,11 +6,11 @@ use lib.ListN.{length}
 use borrow.Author.Needs.{needs}
 use Rattle.book.specs.Asked.{Whole}
 use Rattle.book.specs.Book.{stepAt, stepsFrom}
 use Rattle.typing.specs.Asked.{tableView}
 use Rattle.typing.specs.Rules.{fault}
-use Rattle.typing.proofs.Walks.{walks}
-use Rattle.typing.proofs.blocks.check_block.Tie as tie
-use Rattle.typing.proofs.blocks.check_block.Statement.{statement}
+use Rattle.checking.proofs.Walks.{walks}
+use Rattle.checking.proofs.blocks.check_block.Tie as tie
+use Rattle.checking.proofs.blocks.check_block.Statement.{statement}
 
 abbrev Inv-loop : tie.InvT-loop
 Inv-loop table owners bounds c stretch start s₀ o₀ s o = (o ≤ length stretch) × Whole stretch o × (length (s .registers) ≡ 8) × (fault (tableView c table owners bounds) (stepAt stretch) s (stepsFrom stretch o) ≡ fault (tableView c table owners bounds) (stepAt stretch) s₀ (stepsFrom stretch o₀))

@@ -1,8 +1,8 @@
--- `blocks::type_step` meets its contract. Assumes nothing.
+-- `steps::type_step` meets its contract. Assumes nothing.
 use borrow.Author.Needs.{needs}
 use Rattle.typing.proofs.Dispatch.{steps}
-use Rattle.typing.proofs.blocks.type_step.Tie as tie
-use Rattle.typing.proofs.blocks.type_step.Statement.{statement}
+use Rattle.typing.proofs.steps.type_step.Tie as tie
+use Rattle.typing.proofs.steps.type_step.Statement.{statement}
 
 reaches-requires : tie.Need-reaches-requires
 reaches-requires c κs = search needs

@@ -1,0 +1,26 @@
+-- Book A of 01, "Sample books", and the steps that stand in the place of its last one. What is said of them is in `typing` and `machine`.
+-- Assumes nothing.
+use Prim.Native.Nat.{ℕ}
+use mathlib.Core.List.{List, [], _∷_}
+
+-- book A with this trust, cell label and bound, and these bytes from its last step on
+abbrev pub bookA : ℕ → ℕ → ℕ → List ℕ → List ℕ
+bookA trust label bound last =
+    0x01 ∷ 0x03
+    ∷ 0x10
+    ∷ 0x12 ∷ 0x00 ∷ trust
+    ∷ 0x20 ∷ 0x01 ∷ label ∷ 0x00 ∷ 0x05 ∷ 0x00 ∷ 0x00 ∷ 0x00
+    ∷ 0x30 ∷ bound
+    ∷ 0x41 ∷ 0x00 ∷ 0x00
+    ∷ 0x40 ∷ 0x01 ∷ 0x07 ∷ 0x00 ∷ 0x00 ∷ 0x00
+    ∷ last
+
+-- write 0, 1; relabel 0 to a label; new 2, shape 1, 1
+abbrev pub write : List ℕ
+write = 0x46 ∷ 0x00 ∷ 0x01 ∷ []
+
+abbrev pub relabel : ℕ → List ℕ
+relabel o = 0x47 ∷ 0x00 ∷ o ∷ []
+
+abbrev pub new : List ℕ
+new = 0x44 ∷ 0x02 ∷ 0x01 ∷ 0x01 ∷ []

@@ -1,0 +1,4 @@
+pub mod Walks
+pub mod DeclaredCells
+pub mod BookRules
+pub mod Tables
