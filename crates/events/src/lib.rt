@@ -64,17 +64,19 @@ pub fn next_event(list: &[u8], o: usize) -> usize
     o + w as usize
 }
 
-// The event at an offset.
+// The event at an offset. A step is asked for first: most events are steps.
 pub fn event_at(list: &[u8], o: usize) -> Event
     requires { ⌜ o < length (now list) ⌝ }
     ensures { λ r. ⌜ r ≡ eventAt (now (list .entry)) o ⌝ }
 {
     let k = list[o];
     let x = book::byte(list, o + 1);
+    if k == 80 {
+        return Event::StepOf(x);
+    }
     let y = book::byte(list, o + 2);
     let z = book::byte(list, o + 3);
     match k {
-        80 => Event::StepOf(x),
         81 => Event::WriteBy(Label(x), y, z, book::number(list, o + 4)),
         82 => Event::RelabelBy(Label(x), y, Label(z)),
         83 => Event::NewBy(Label(x), y, z, book::number(list, o + 4)),

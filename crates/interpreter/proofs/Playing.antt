@@ -8,7 +8,9 @@ use Prim.Native.Nat.{ℕ, _+_, _-_, _<_, _≤_}
 use native.Mathlib.Omega.{arith}
 use lib.ListN.{length, take, getD, set, replicate, length-set, length-map}
 use Rattle.labels.specs.declared.Label.{Label}
+use Rattle.labels.specs.Labels.{label}
 use Rattle.book.specs.declared.Refusal.the-variants.{Passed}
+use Rattle.book.specs.declared.Value.the-variants.{Plain}
 use Rattle.book.specs.Book.{parse, blocksOf, blockAt}
 use Rattle.book.specs.Outline.{shapeIn, startAt}
 use Rattle.book.proofs.Readable.{readable}
@@ -23,6 +25,7 @@ use Rattle.acts.specs.declared.Effect.{Effect}
 use Rattle.acts.specs.declared.Effect.the-variants.{Blocked, Keep, Store, Create, Launch}
 use Rattle.acts.specs.Views.{jobOf, effectOf}
 use Rattle.acts.proofs.Nearby.{create-room, launch-room}
+use Rattle.interpreter.specs.declared.Plan.the-variants.{Halt}
 use Rattle.interpreter.specs.declared.Seen.{Seen}
 use Rattle.interpreter.specs.declared.Aim.{Aim}
 use Rattle.interpreter.specs.declared.Deed.{Deed}
@@ -204,6 +207,16 @@ module _ (b : List ℕ) (c : Label) (shapes offsets starts list room-cells room-
               (placed (Launch x l g) e a) x l g child (playing-free e) ef
               (placed-fresh b (w .setting .readable) starts (w .setting .starts-are) child x eb ep (ea′ ∙ st))))
 
+      -- the event is answered at once; which cell is looked up then plays no part
+      pub playing-halted : (d j : Job) → j ≡ getD jobs (seen .actor) d → (aim : Aim) → Aims b c (shapeIn shapes) (length starts) n m (seen .event) j aim
+          → (a : ℕ) → aim .plan ≡ Halt a
+          → Playing b c shapes offsets starts list room-cells room-jobs before (set now at a) cells n jobs m (seen .next) (at + 1)
+      unfolding Performs
+      playing-halted d j ej aim ea a e =
+          let x : Cell = record { shape = 0; label = label 0; content = record { value = Plain 0; source = label 0 } } in
+          playing-blocked d j ej aim ea x (getD cells (aim .entry) x) refl (record { answer = a; job = j; effect = Blocked })
+          (rw e (record { effect = refl; job = refl; answer = refl })) refl
+
 pub ruleset plays = (
   playing-start,
   playing-small,
@@ -214,6 +227,7 @@ pub ruleset plays = (
   playing-fits,
   playing-falls,
   playing-blocked,
+  playing-halted,
   playing-keep,
   playing-store,
   playing-past,

@@ -1,4 +1,5 @@
 // The events of a run, one after the other.
+use crate::Plan;
 use crate::Ran;
 use crate::opening;
 use crate::plans;
@@ -54,46 +55,54 @@ pub fn play(
         let i = seen.actor;
         let j = begun[i];
         let aim = plans::take_aim(book, c, shapes, starts.len(), n, m, e, j);
-        let k = aim.cell;
-        let q = aim.entry;
-        let cell = held[q];
         let plan = aim.plan;
-        let deed = plans::perform(
-            plan,
-            e,
-            j,
-            Near {
-                cell: cell,
-                cells: n,
-                jobs: m,
-            },
-        );
-        answers[at] = deed.answer;
-        at = at + 1;
         o = seen.next;
-        let job = deed.job;
-        let effect = deed.effect;
-        match effect {
-            Effect::Blocked => {}
-            Effect::Keep => {
-                begun[i] = job;
-            }
-            Effect::Store(d) => {
-                begun[i] = job;
-                if k < Job::TABLE_SIZE {
-                    held[k] = d;
+        if let Plan::Halt(a) = plan {
+            answers[at] = a;
+            at = at + 1;
+        } else {
+            let k = aim.cell;
+            let q = aim.entry;
+            let cell = held[q];
+            let deed = plans::perform(
+                plan,
+                e,
+                j,
+                Near {
+                    cell: cell,
+                    cells: n,
+                    jobs: m,
+                },
+            );
+            answers[at] = deed.answer;
+            at = at + 1;
+            let effect = deed.effect;
+            match effect {
+                Effect::Blocked => {}
+                Effect::Keep => {
+                    let job = deed.job;
+                    begun[i] = job;
                 }
-            }
-            Effect::Create(d) => {
-                begun[i] = job;
-                held[n] = d;
-                n = n + 1;
-            }
-            Effect::Launch(x, l, h) => {
-                begun[i] = job;
-                let child = Job::fresh(x, start_of(starts, x, book.len()), l, h);
-                begun[m] = child;
-                m = m + 1;
+                Effect::Store(d) => {
+                    let job = deed.job;
+                    begun[i] = job;
+                    if k < Job::TABLE_SIZE {
+                        held[k] = d;
+                    }
+                }
+                Effect::Create(d) => {
+                    let job = deed.job;
+                    begun[i] = job;
+                    held[n] = d;
+                    n = n + 1;
+                }
+                Effect::Launch(x, l, h) => {
+                    let job = deed.job;
+                    begun[i] = job;
+                    let child = Job::fresh(x, start_of(starts, x, book.len()), l, h);
+                    begun[m] = child;
+                    m = m + 1;
+                }
             }
         }
     }

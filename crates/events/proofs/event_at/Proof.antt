@@ -13,6 +13,9 @@ add-byte c = search needs
 byte-requires : tie.Need-byte-requires
 byte-requires c κs = search needs
 
+returns : tie.Need-returns
+returns c = search says
+
 add-byte-2 : tie.Need-add-byte-2
 add-byte-2 c = search needs
 
@@ -37,9 +40,6 @@ add-number-2 c = search needs
 number-requires-2 : tie.Need-number-requires-2
 number-requires-2 c κs = search needs
 
-returns : tie.Need-returns
-returns c = search says
-
 returns-2 : tie.Need-returns-2
 returns-2 c = search says
 
@@ -62,6 +62,7 @@ event-at-spec =
     shared-slice-read-k
     add-byte
     byte-requires
+    returns
     add-byte-2
     byte-requires-2
     add-byte-3
@@ -70,7 +71,6 @@ event-at-spec =
     number-requires
     add-number-2
     number-requires-2
-    returns
     returns-2
     returns-3
     returns-4

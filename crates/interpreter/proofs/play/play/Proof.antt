@@ -4,7 +4,7 @@ use Prim.Native.Nat.{_-_}
 use lib.ListN.{length}
 use borrow.Author.Needs.{needs}
 use Rattle.interpreter.proofs.Opened.{open-listed}
-use Rattle.interpreter.proofs.Playing.{Playing, plays, playing-start, playing-ready, playing-few, playing-sized, playing-begun, playing-end, playing-fit, playing-blocked, playing-keep, playing-store, playing-past, playing-create, playing-room, playing-free, playing-falls, playing-launch}
+use Rattle.interpreter.proofs.Playing.{Playing, plays, playing-start, playing-ready, playing-few, playing-sized, playing-begun, playing-end, playing-fit, playing-blocked, playing-halted, playing-keep, playing-store, playing-past, playing-create, playing-room, playing-free, playing-falls, playing-launch}
 use Rattle.interpreter.proofs.play.play.Statement.{statement}
 use Rattle.interpreter.proofs.play.play.Tie as tie
 
@@ -36,6 +36,26 @@ array-copy-out-j c = search needs
 take-aim-requires : tie.Need-take-aim-requires Inv-loop μ-loop
 take-aim-requires c κs = search needs
 
+enum-known-plan : tie.Need-enum-known-plan Inv-loop μ-loop
+enum-known-plan c = search needs
+
+slice-write-answers : tie.Need-slice-write-answers Inv-loop μ-loop
+slice-write-answers c = search (plays, needs)
+
+add-at : tie.Need-add-at Inv-loop μ-loop
+add-at c = let f = playing-few _ _ _ _ _ _ _ _ _ _ _ _ _ _ _ _ (c .before .before .before .before .before .before .before .loop .inv) (c .before .before .before .before .before .before .loop-test .taken) in search needs
+
+loop-less : tie.Need-loop-less Inv-loop μ-loop
+loop-less c =
+    let s = c .before .before .before .before .before in
+    playing-falls _ _ _ _ _ _ _ _ _ _ _ _ _ _ _ _ (s .before .before .loop .inv) (s .before .loop-test .taken) _ (s .see-event .ensures)
+
+loop-again : tie.Need-loop-again Inv-loop μ-loop
+loop-again c =
+    let a = c .before .before .before in
+    let s = a .before .before in
+    playing-halted _ _ _ _ _ _ _ _ _ _ _ _ _ _ _ _ (s .before .before .loop .inv) (s .before .loop-test .taken) _ (s .see-event .ensures) _ _ refl _ (a .take-aim .ensures) _ (c .before .plan .given .1)
+
 mul-cell : tie.Need-mul-cell Inv-loop μ-loop
 mul-cell c = search needs
 
@@ -43,22 +63,30 @@ array-copy-out-cell : tie.Need-array-copy-out-cell Inv-loop μ-loop
 array-copy-out-cell c = search needs
 
 perform-requires : tie.Need-perform-requires Inv-loop μ-loop
-perform-requires c κs = playing-ready _ _ _ _ _ _ _ _ _ _ _ _ _ _ _ _ (c .before .before .before .before .before .loop .inv) _ _ (c .before .before .before .see-event .ensures)
+perform-requires c κs =
+    let s = c .before .before .before .before in
+    playing-ready _ _ _ _ _ _ _ _ _ _ _ _ _ _ _ _ (s .before .before .loop .inv) _ _ (s .see-event .ensures)
 
-slice-write-answers : tie.Need-slice-write-answers Inv-loop μ-loop
-slice-write-answers c = search (plays, needs)
+slice-write-answers-2 : tie.Need-slice-write-answers-2 Inv-loop μ-loop
+slice-write-answers-2 c = search (plays, needs)
 
-add-at : tie.Need-add-at Inv-loop μ-loop
-add-at c = let f = playing-few _ _ _ _ _ _ _ _ _ _ _ _ _ _ _ _ (c .before .before .before .before .before .before .loop .inv) (c .before .before .before .before .before .loop-test .taken) in search needs
+add-at-2 : tie.Need-add-at-2 Inv-loop μ-loop
+add-at-2 c = let f = playing-few _ _ _ _ _ _ _ _ _ _ _ _ _ _ _ _ (c .before .before .before .before .before .before .before .loop .inv) (c .before .before .before .before .before .before .loop-test .taken) in search needs
 
 enum-told : tie.Need-enum-told Inv-loop μ-loop
 enum-told c = search needs
 
-loop-less : tie.Need-loop-less Inv-loop μ-loop
-loop-less c = search (plays, needs)
+loop-less-2 : tie.Need-loop-less-2 Inv-loop μ-loop
+loop-less-2 c =
+    let s = c .before .before .before .before .before .before .before in
+    playing-falls _ _ _ _ _ _ _ _ _ _ _ _ _ _ _ _ (s .before .before .loop .inv) (s .before .loop-test .taken) _ (s .see-event .ensures)
 
-loop-again : tie.Need-loop-again Inv-loop μ-loop
-loop-again c = playing-blocked _ _ _ _ _ _ _ _ _ _ _ _ _ _ _ _ (c .before .before .before .before .before .before .before .before .before .loop .inv) (c .before .before .before .before .before .before .before .before .loop-test .taken) _ (c .before .before .before .before .before .before .before .see-event .ensures) _ _ refl _ (c .before .before .before .before .before .take-aim .ensures) _ _ refl _ (c .before .before .before .perform .ensures) (c .enum-told .given .1)
+loop-again-2 : tie.Need-loop-again-2 Inv-loop μ-loop
+loop-again-2 c =
+    let p = c .before .before in
+    let a = p .before .before .before in
+    let s = a .before .before in
+    playing-blocked _ _ _ _ _ _ _ _ _ _ _ _ _ _ _ _ (s .before .before .loop .inv) (s .before .loop-test .taken) _ (s .see-event .ensures) _ _ refl _ (a .take-aim .ensures) _ _ refl _ (p .perform .ensures) (c .enum-told .given .1)
 
 enum-told-2 : tie.Need-enum-told-2 Inv-loop μ-loop
 enum-told-2 c = search needs
@@ -69,11 +97,17 @@ mul-begun c = search needs
 array-set-from-begun : tie.Need-array-set-from-begun Inv-loop μ-loop
 array-set-from-begun c = search needs
 
-loop-less-2 : tie.Need-loop-less-2 Inv-loop μ-loop
-loop-less-2 c = search (plays, needs)
+loop-less-3 : tie.Need-loop-less-3 Inv-loop μ-loop
+loop-less-3 c =
+    let s = c .before .before .before .before .before .before .before .before in
+    playing-falls _ _ _ _ _ _ _ _ _ _ _ _ _ _ _ _ (s .before .before .loop .inv) (s .before .loop-test .taken) _ (s .see-event .ensures)
 
-loop-again-2 : tie.Need-loop-again-2 Inv-loop μ-loop
-loop-again-2 c = playing-keep _ _ _ _ _ _ _ _ _ _ _ _ _ _ _ _ (c .before .before .before .before .before .before .before .before .before .loop .inv) (c .before .before .before .before .before .before .before .before .loop-test .taken) _ (c .before .before .before .before .before .before .before .see-event .ensures) _ _ refl _ (c .before .before .before .before .before .take-aim .ensures) _ _ refl _ (c .before .before .before .perform .ensures) (c .enum-told2 .given .1)
+loop-again-3 : tie.Need-loop-again-3 Inv-loop μ-loop
+loop-again-3 c =
+    let p = c .before .before .before in
+    let a = p .before .before .before in
+    let s = a .before .before in
+    playing-keep _ _ _ _ _ _ _ _ _ _ _ _ _ _ _ _ (s .before .before .loop .inv) (s .before .loop-test .taken) _ (s .see-event .ensures) _ _ refl _ (a .take-aim .ensures) _ _ refl _ (p .perform .ensures) (c .before .enum-told2 .given .1)
 
 enum-known-effect : tie.Need-enum-known-effect Inv-loop μ-loop
 enum-known-effect c = search needs
@@ -90,17 +124,29 @@ mul-held c = search needs
 array-set-from-held : tie.Need-array-set-from-held Inv-loop μ-loop
 array-set-from-held c = search needs
 
-loop-less-3 : tie.Need-loop-less-3 Inv-loop μ-loop
-loop-less-3 c = search (plays, needs)
-
-loop-again-3 : tie.Need-loop-again-3 Inv-loop μ-loop
-loop-again-3 c = playing-store _ _ _ _ _ _ _ _ _ _ _ _ _ _ _ _ (c .before .before .before .before .before .before .before .before .before .before .before .loop .inv) (c .before .before .before .before .before .before .before .before .before .before .loop-test .taken) _ (c .before .before .before .before .before .before .before .before .before .see-event .ensures) _ _ refl _ (c .before .before .before .before .before .before .before .take-aim .ensures) _ _ refl _ (c .before .before .before .before .before .perform .ensures) _ (c .before .before .effect .given .1)
-
 loop-less-4 : tie.Need-loop-less-4 Inv-loop μ-loop
-loop-less-4 c = search (plays, needs)
+loop-less-4 c =
+    let s = c .before .before .before .before .before .before .before .before .before .before in
+    playing-falls _ _ _ _ _ _ _ _ _ _ _ _ _ _ _ _ (s .before .before .loop .inv) (s .before .loop-test .taken) _ (s .see-event .ensures)
 
 loop-again-4 : tie.Need-loop-again-4 Inv-loop μ-loop
-loop-again-4 c = playing-past _ _ _ _ _ _ _ _ _ _ _ _ _ _ _ _ (c .before .before .before .before .before .before .before .before .before .before .before .loop .inv) (c .before .before .before .before .before .before .before .before .before .before .loop-test .taken) _ (c .before .before .before .before .before .before .before .before .before .see-event .ensures) _ _ refl _ (c .before .before .before .before .before .before .before .take-aim .ensures) _ _ refl _ (c .before .before .before .before .before .perform .ensures) _ (c .before .before .effect .given .1) (c .if1 .left)
+loop-again-4 c =
+    let p = c .before .before .before .before .before in
+    let a = p .before .before .before in
+    let s = a .before .before in
+    playing-store _ _ _ _ _ _ _ _ _ _ _ _ _ _ _ _ (s .before .before .loop .inv) (s .before .loop-test .taken) _ (s .see-event .ensures) _ _ refl _ (a .take-aim .ensures) _ _ refl _ (p .perform .ensures) _ (c .before .before .before .effect .given .1)
+
+loop-less-5 : tie.Need-loop-less-5 Inv-loop μ-loop
+loop-less-5 c =
+    let s = c .before .before .before .before .before .before .before .before .before .before in
+    playing-falls _ _ _ _ _ _ _ _ _ _ _ _ _ _ _ _ (s .before .before .loop .inv) (s .before .loop-test .taken) _ (s .see-event .ensures)
+
+loop-again-5 : tie.Need-loop-again-5 Inv-loop μ-loop
+loop-again-5 c =
+    let p = c .before .before .before .before .before in
+    let a = p .before .before .before in
+    let s = a .before .before in
+    playing-past _ _ _ _ _ _ _ _ _ _ _ _ _ _ _ _ (s .before .before .loop .inv) (s .before .loop-test .taken) _ (s .see-event .ensures) _ _ refl _ (a .take-aim .ensures) _ _ refl _ (p .perform .ensures) _ (c .before .before .before .effect .given .1) (c .if1 .left)
 
 enum-known-effect-2 : tie.Need-enum-known-effect-2 Inv-loop μ-loop
 enum-known-effect-2 c = search needs
@@ -115,16 +161,27 @@ mul-held-2 : tie.Need-mul-held-2 Inv-loop μ-loop
 mul-held-2 c = search needs
 
 array-set-from-held-2 : tie.Need-array-set-from-held-2 Inv-loop μ-loop
-array-set-from-held-2 c = let f = playing-room _ _ _ _ _ _ _ _ _ _ _ _ _ _ _ _ (c .before .before .before .before .before .before .before .before .before .before .loop .inv) (c .before .before .before .before .before .before .before .before .before .loop-test .taken) _ (c .before .before .before .before .before .before .before .before .see-event .ensures) _ _ refl _ (c .before .before .before .before .before .before .take-aim .ensures) _ _ refl _ (c .before .before .before .before .perform .ensures) _ (c .before .effect2 .given .1) in search needs
+array-set-from-held-2 c =
+    let p = c .before .before .before .before in
+    let a = p .before .before .before in
+    let s = a .before .before in
+    let f = playing-room _ _ _ _ _ _ _ _ _ _ _ _ _ _ _ _ (s .before .before .loop .inv) (s .before .loop-test .taken) _ (s .see-event .ensures) _ _ refl _ (a .take-aim .ensures) _ _ refl _ (p .perform .ensures) _ (c .before .before .effect2 .given .1) in
+    search needs
 
 add-n : tie.Need-add-n Inv-loop μ-loop
 add-n c = search needs
 
-loop-less-5 : tie.Need-loop-less-5 Inv-loop μ-loop
-loop-less-5 c = search (plays, needs)
+loop-less-6 : tie.Need-loop-less-6 Inv-loop μ-loop
+loop-less-6 c =
+    let s = c .before .before .before .before .before .before .before .before .before in
+    playing-falls _ _ _ _ _ _ _ _ _ _ _ _ _ _ _ _ (s .before .before .loop .inv) (s .before .loop-test .taken) _ (s .see-event .ensures)
 
-loop-again-5 : tie.Need-loop-again-5 Inv-loop μ-loop
-loop-again-5 c = playing-create _ _ _ _ _ _ _ _ _ _ _ _ _ _ _ _ (c .before .before .before .before .before .before .before .before .before .before .loop .inv) (c .before .before .before .before .before .before .before .before .before .loop-test .taken) _ (c .before .before .before .before .before .before .before .before .see-event .ensures) _ _ refl _ (c .before .before .before .before .before .before .take-aim .ensures) _ _ refl _ (c .before .before .before .before .perform .ensures) _ (c .before .effect2 .given .1)
+loop-again-6 : tie.Need-loop-again-6 Inv-loop μ-loop
+loop-again-6 c =
+    let p = c .before .before .before .before in
+    let a = p .before .before .before in
+    let s = a .before .before in
+    playing-create _ _ _ _ _ _ _ _ _ _ _ _ _ _ _ _ (s .before .before .loop .inv) (s .before .loop-test .taken) _ (s .see-event .ensures) _ _ refl _ (a .take-aim .ensures) _ _ refl _ (p .perform .ensures) _ (c .before .before .effect2 .given .1)
 
 enum-known-effect-3 : tie.Need-enum-known-effect-3 Inv-loop μ-loop
 enum-known-effect-3 c = search needs
@@ -142,19 +199,40 @@ fresh-requires : tie.Need-fresh-requires Inv-loop μ-loop
 fresh-requires c κs = search needs
 
 mul-begun-5 : tie.Need-mul-begun-5 Inv-loop μ-loop
-mul-begun-5 c = let f = playing-free _ _ _ _ _ _ _ _ _ _ _ _ _ _ _ _ (c .before .before .before .before .before .before .before .before .before .before .before .before .loop .inv) (c .before .before .before .before .before .before .before .before .before .before .before .loop-test .taken) _ (c .before .before .before .before .before .before .before .before .before .before .see-event .ensures) _ _ refl _ (c .before .before .before .before .before .before .before .before .take-aim .ensures) _ _ refl _ (c .before .before .before .before .before .before .perform .ensures) _ _ _ (c .before .before .before .effect3 .given .1) in search needs
+mul-begun-5 c =
+    let p = c .before .before .before .before .before .before in
+    let a = p .before .before .before in
+    let s = a .before .before in
+    let f = playing-free _ _ _ _ _ _ _ _ _ _ _ _ _ _ _ _ (s .before .before .loop .inv) (s .before .loop-test .taken) _ (s .see-event .ensures) _ _ refl _ (a .take-aim .ensures) _ _ refl _ (p .perform .ensures) _ _ _ (c .before .before .before .before .effect3 .given .1) in
+    search needs
 
 array-set-from-begun-5 : tie.Need-array-set-from-begun-5 Inv-loop μ-loop
-array-set-from-begun-5 c = let f = playing-free _ _ _ _ _ _ _ _ _ _ _ _ _ _ _ _ (c .before .before .before .before .before .before .before .before .before .before .before .before .loop .inv) (c .before .before .before .before .before .before .before .before .before .before .before .loop-test .taken) _ (c .before .before .before .before .before .before .before .before .before .before .see-event .ensures) _ _ refl _ (c .before .before .before .before .before .before .before .before .take-aim .ensures) _ _ refl _ (c .before .before .before .before .before .before .perform .ensures) _ _ _ (c .before .before .before .effect3 .given .1) in search needs
+array-set-from-begun-5 c =
+    let p = c .before .before .before .before .before .before in
+    let a = p .before .before .before in
+    let s = a .before .before in
+    let f = playing-free _ _ _ _ _ _ _ _ _ _ _ _ _ _ _ _ (s .before .before .loop .inv) (s .before .loop-test .taken) _ (s .see-event .ensures) _ _ refl _ (a .take-aim .ensures) _ _ refl _ (p .perform .ensures) _ _ _ (c .before .before .before .before .effect3 .given .1) in
+    search needs
 
 add-m : tie.Need-add-m Inv-loop μ-loop
-add-m c = let f = playing-free _ _ _ _ _ _ _ _ _ _ _ _ _ _ _ _ (c .before .before .before .before .before .before .before .before .before .before .before .before .loop .inv) (c .before .before .before .before .before .before .before .before .before .before .before .loop-test .taken) _ (c .before .before .before .before .before .before .before .before .before .before .see-event .ensures) _ _ refl _ (c .before .before .before .before .before .before .before .before .take-aim .ensures) _ _ refl _ (c .before .before .before .before .before .before .perform .ensures) _ _ _ (c .before .before .before .effect3 .given .1) in search needs
+add-m c =
+    let p = c .before .before .before .before .before .before in
+    let a = p .before .before .before in
+    let s = a .before .before in
+    let f = playing-free _ _ _ _ _ _ _ _ _ _ _ _ _ _ _ _ (s .before .before .loop .inv) (s .before .loop-test .taken) _ (s .see-event .ensures) _ _ refl _ (a .take-aim .ensures) _ _ refl _ (p .perform .ensures) _ _ _ (c .before .before .before .before .effect3 .given .1) in
+    search needs
 
-loop-less-6 : tie.Need-loop-less-6 Inv-loop μ-loop
-loop-less-6 c = playing-falls _ _ _ _ _ _ _ _ _ _ _ _ _ _ _ _ (c .before .before .before .before .before .before .before .before .before .before .before .before .loop .inv) (c .before .before .before .before .before .before .before .before .before .before .before .loop-test .taken) _ (c .before .before .before .before .before .before .before .before .before .before .see-event .ensures)
+loop-less-7 : tie.Need-loop-less-7 Inv-loop μ-loop
+loop-less-7 c =
+    let s = c .before .before .before .before .before .before .before .before .before .before .before in
+    playing-falls _ _ _ _ _ _ _ _ _ _ _ _ _ _ _ _ (s .before .before .loop .inv) (s .before .loop-test .taken) _ (s .see-event .ensures)
 
-loop-again-6 : tie.Need-loop-again-6 Inv-loop μ-loop
-loop-again-6 c = playing-launch _ _ _ _ _ _ _ _ _ _ _ _ _ _ _ _ (c .before .before .before .before .before .before .before .before .before .before .before .before .loop .inv) (c .before .before .before .before .before .before .before .before .before .before .before .loop-test .taken) _ (c .before .before .before .before .before .before .before .before .before .before .see-event .ensures) _ _ refl _ (c .before .before .before .before .before .before .before .before .take-aim .ensures) _ _ refl _ (c .before .before .before .before .before .before .perform .ensures) _ _ _ _ _ (c .before .before .before .effect3 .given .1) (c .before .start-of .ensures) (c .fresh .ensures .0) (c .fresh .ensures .1) (c .fresh .ensures .2) (c .fresh .ensures .3)
+loop-again-7 : tie.Need-loop-again-7 Inv-loop μ-loop
+loop-again-7 c =
+    let p = c .before .before .before .before .before .before in
+    let a = p .before .before .before in
+    let s = a .before .before in
+    playing-launch _ _ _ _ _ _ _ _ _ _ _ _ _ _ _ _ (s .before .before .loop .inv) (s .before .loop-test .taken) _ (s .see-event .ensures) _ _ refl _ (a .take-aim .ensures) _ _ refl _ (p .perform .ensures) _ _ _ _ _ (c .before .before .before .before .effect3 .given .1) (c .before .start-of .ensures) (c .fresh .ensures .0) (c .fresh .ensures .1) (c .fresh .ensures .2) (c .fresh .ensures .3)
 
 save-cells-requires : tie.Need-save-cells-requires Inv-loop μ-loop
 save-cells-requires c κs = playing-sized _ _ _ _ _ _ _ _ _ _ _ _ _ _ _ _ (c .before .before .loop .inv)
@@ -187,36 +265,41 @@ play-spec =
     mul-j
     array-copy-out-j
     take-aim-requires
+    enum-known-plan
+    slice-write-answers
+    add-at
+    loop-less
+    loop-again
     mul-cell
     array-copy-out-cell
     perform-requires
-    slice-write-answers
-    add-at
+    slice-write-answers-2
+    add-at-2
     enum-told
-    loop-less
-    loop-again
+    loop-less-2
+    loop-again-2
     enum-told-2
     mul-begun
     array-set-from-begun
-    loop-less-2
-    loop-again-2
+    loop-less-3
+    loop-again-3
     enum-known-effect
     mul-begun-2
     array-set-from-begun-2
     mul-held
     array-set-from-held
-    loop-less-3
-    loop-again-3
     loop-less-4
     loop-again-4
+    loop-less-5
+    loop-again-5
     enum-known-effect-2
     mul-begun-3
     array-set-from-begun-3
     mul-held-2
     array-set-from-held-2
     add-n
-    loop-less-5
-    loop-again-5
+    loop-less-6
+    loop-again-6
     enum-known-effect-3
     mul-begun-4
     array-set-from-begun-4
@@ -225,8 +308,8 @@ play-spec =
     mul-begun-5
     array-set-from-begun-5
     add-m
-    loop-less-6
-    loop-again-6
+    loop-less-7
+    loop-again-7
     save-cells-requires
     save-jobs-requires
     same-length
