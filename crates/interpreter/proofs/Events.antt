@@ -31,7 +31,7 @@ use Rattle.book.proofs.Lists.{at-none}
 use Rattle.interpreter.specs.declared.Plan.{Plan}
 use Rattle.interpreter.specs.declared.Plan.the-variants.{Halt, Take, Act}
 use Rattle.interpreter.specs.declared.Deed.{Deed}
-use Rattle.interpreter.specs.Plans.{stepPlan, actPlan, planOf, clamped, actorOf, aimOf, Performs}
+use Rattle.interpreter.specs.Plans.{stepPlan, actPlan, stepPlanOf, planOf, clamped, actorOf, aimOf, Performs}
 use Rattle.interpreter.specs.Loop.{Holds}
 use Rattle.interpreter.proofs.Lands.{Lands, at-once, job-there, jobs-in-use, cells-in-use, step-none, lands-taken, lands-acted}
 
@@ -42,33 +42,33 @@ module _ (b : List ℕ) (shape : ℕ → Shape) (shapes-are : (i : ℕ) → shap
   pub record Outsiders (s : State Label) (e : Event) : Type 0 where
     pub outcome : outcomeOf sources tableSize (parse b) s e
         ≡ given (such (parse b .c) shape blocks (length (s .cells)) e) (landed s s (outside s e)) (unchanged noSuch s)
-    pub plan : (n m o : ℕ) → planOf b (parse b .c) shape blocks n m e o ≡ actPlan (such (parse b .c) shape blocks n e)
+    pub plan : (m o : ℕ) (t : Bool) → planOf b m t e o ≡ actPlan t
     pub actor : actorOf e ≡ 0
 
   module _ (s : State Label) where
     is-write : (q : Label) (k v n : ℕ) → Outsiders s (WriteBy q k v n)
     unfolding outcomeOf such suchWrite suchValue outside planOf actorOf
-    is-write q k v n = record { outcome = rw blocks-are refl; plan = λ n m o. refl; actor = refl }
+    is-write q k v n = record { outcome = rw blocks-are refl; plan = λ m o t. refl; actor = refl }
 
     is-relabel : (q : Label) (k : ℕ) (l : Label) → Outsiders s (RelabelBy q k l)
     unfolding outcomeOf such suchRelabel outside planOf actorOf
-    is-relabel q k l = record { outcome = refl; plan = λ n m o. refl; actor = refl }
+    is-relabel q k l = record { outcome = refl; plan = λ m o t. refl; actor = refl }
 
     is-new : (q : Label) (i v n : ℕ) → Outsiders s (NewBy q i v n)
     unfolding outcomeOf such suchNew suchValue lowCellShape outside planOf actorOf
-    is-new q i v n = record { outcome = rw (blocks-are, shapes-are i) refl; plan = λ n m o. refl; actor = refl }
+    is-new q i v n = record { outcome = rw (blocks-are, shapes-are i) refl; plan = λ m o t. refl; actor = refl }
 
     is-exec : (q : Label) (k : ℕ) → Outsiders s (ExecBy q k)
     unfolding outcomeOf such suchNumber outside planOf actorOf
-    is-exec q k = record { outcome = refl; plan = λ n m o. refl; actor = refl }
+    is-exec q k = record { outcome = refl; plan = λ m o t. refl; actor = refl }
 
     is-start : (q : Label) (k : ℕ) → Outsiders s (StartBy q k)
     unfolding outcomeOf such suchNumber outside planOf actorOf
-    is-start q k = record { outcome = rw blocks-are refl; plan = λ n m o. refl; actor = refl }
+    is-start q k = record { outcome = rw blocks-are refl; plan = λ m o t. refl; actor = refl }
 
   module _ (s : State Label) (cells : List Cell) (n : ℕ) (jobs : List Job) (m : ℕ) (h : Holds b s cells n jobs m) where
     planned : Event → Job → Plan
-    planned e j = planOf b (parse b .c) shape blocks n m e (j .at)
+    planned e j = planOf b m (such (parse b .c) shape blocks n e) e (j .at)
 
     -- the loop's values for an event, as terms
     abbrev Told : Event → ℕ → Job → Cell → Cell → Deed → Type 0
@@ -78,7 +78,7 @@ module _ (b : List ℕ) (shape : ℕ → Shape) (shapes-are : (i : ℕ) → shap
         → Lands b s m i (aimOf (planned e (getD jobs i d)) e (jobOf (getD jobs i d))) (outcomeOf sources tableSize (parse b) s e) z
 
     step-in : (i : ℕ) (d : Job) (dc c : Cell) (z : Deed) → i < m → Told (StepOf i) i d dc c z
-    unfolding planned planOf stepPlan aimOf Performs outcomeOf onSome
+    unfolding planned planOf stepPlanOf stepPlan aimOf Performs outcomeOf onSome
     step-in i d dc c z r ec ez = go (stepFound b (getD jobs i d .at)) refl
       where
         go : (x : StepAt) → stepFound b (getD jobs i d .at) ≡ x
@@ -92,7 +92,7 @@ module _ (b : List ℕ) (shape : ℕ → Shape) (shapes-are : (i : ℕ) → shap
             rw p (lands-taken b s cells n jobs m h i d dc c z x o r q (rw p at ec) (rw p at ez))
 
     step-out : (i k : ℕ) (d : Job) (dc c : Cell) (z : Deed) → m ≤ i → Told (StepOf i) k d dc c z
-    unfolding planned planOf Performs outcomeOf onSome
+    unfolding planned planOf stepPlanOf Performs outcomeOf onSome
     step-out i k d dc c z r ec ez =
         let p : planned (StepOf i) (getD jobs k d) ≡ Halt noSuch = simp (borrow.Author.Tests.le-ltb _ _ r) in
         at-once b s m k _ noSuch (getD jobs k d) z _ (rw p at ez) (simp (at-none (s .jobs) i (omega (arith, jobs-in-use b s cells n jobs m h, r))))
@@ -117,10 +117,10 @@ module _ (b : List ℕ) (shape : ℕ → Shape) (shapes-are : (i : ℕ) → shap
         go : (t : Bool) → such (parse b .c) shape blocks n e ≡ t
             → Lands b s m 0 (aimOf (planned e (getD jobs 0 d)) e (jobOf (getD jobs 0 d))) (outcomeOf sources tableSize (parse b) s e) z
         go true q =
-            let p : planned e (getD jobs 0 d) ≡ Act = u .plan n m (getD jobs 0 d .at) ∙ ap actPlan q in
+            let p : planned e (getD jobs 0 d) ≡ Act = u .plan m (getD jobs 0 d .at) _ ∙ ap actPlan q in
             rw p (lands-acted b s cells n jobs m h e d dc c z (rw p at ec) (rw p at ez) (outcomeOf sources tableSize (parse b) s e) (u .outcome ∙ simp (count, q)))
         go false q =
-            let p : planned e (getD jobs 0 d) ≡ Halt noSuch = u .plan n m (getD jobs 0 d .at) ∙ ap actPlan q in
+            let p : planned e (getD jobs 0 d) ≡ Halt noSuch = u .plan m (getD jobs 0 d .at) _ ∙ ap actPlan q in
             at-once b s m 0 _ noSuch (getD jobs 0 d) z _ (rw p at ez) (u .outcome ∙ simp (count, q))
 
     told : (e : Event) (d : Job) (dc c : Cell) (z : Deed) → Told e (clamped (actorOf e)) d dc c z
@@ -134,7 +134,7 @@ module _ (b : List ℕ) (shape : ℕ → Shape) (shapes-are : (i : ℕ) → shap
 
     -- from what the loop's functions gave
     pub lands : (e : Event) (a i : ℕ) (d j : Job) (x : Plan) (k q : ℕ) (dc c : Cell) (z : Deed) → a ≡ actorOf e → i ≡ clamped a → j ≡ getD jobs i d
-        → x ≡ planOf b (parse b .c) shape blocks n m e (j .at) → k ≡ aimOf x e (jobOf j) → q ≡ clamped k → c ≡ getD cells q dc
+        → x ≡ planOf b m (such (parse b .c) shape blocks n e) e (j .at) → k ≡ aimOf x e (jobOf j) → q ≡ clamped k → c ≡ getD cells q dc
         → Performs e j (record { cell = c; cells = n; jobs = m }) x z → Lands b s m i k (outcomeOf sources tableSize (parse b) s e) z
     unfolding planned
     lands e a i d j x k q dc c z ea ei ej ex ek eq ec ez =

@@ -2,13 +2,15 @@
 --     plannings      what an event asks for, which job acts, which cell is reached
 --     performs       what is done
 -- Assumes nothing.
-use mathlib.Core.Path.{_≡_, refl, ap, _∙_}
+use mathlib.Core.Path.{_≡_, refl, sym, ap, _∙_}
 use mathlib.Core.Bool.{Bool, true, false}
-use mathlib.Core.List.{List}
+use mathlib.Core.List.{List, [], _∷_}
 use Prim.Native.Nat.{ℕ, _<_, _≤_}
 use native.Mathlib.Omega.{arith}
 use lib.ListN.{length, getD}
 use borrow.Author.Tests.{lt-ltb, le-ltb}
+use denote.Enum.Declared.{tagOf}
+use types.Run.{OneOf, miss}
 use Rattle.labels.specs.declared.Label.{Label}
 use Rattle.book.specs.declared.Shape.{Shape}
 use Rattle.book.specs.declared.Step.{Step}
@@ -18,6 +20,7 @@ use Rattle.book.specs.declared.StepAt.the-variants.{NoStep, StepThere}
 use Rattle.book.specs.Stretch.{stepFound}
 use Rattle.machine.specs.declared.Event.{Event}
 use Rattle.machine.specs.declared.Event.the-variants.{StepOf, WriteBy, RelabelBy, NewBy, ExecBy, StartBy}
+use Rattle.machine.proofs.Event.{the-type}
 use Rattle.machine.specs.Histories.{sources}
 use Rattle.machine.specs.States.{Traced}
 use Rattle.machine.specs.Steps.{register, turnOf}
@@ -36,7 +39,14 @@ use Rattle.acts.specs.Outside.{such, aimedAt, outside}
 use Rattle.interpreter.specs.declared.Plan.{Plan}
 use Rattle.interpreter.specs.declared.Plan.the-variants.{Halt, Take, Act}
 use Rattle.interpreter.specs.Loop.{startIn}
-use Rattle.interpreter.specs.Plans.{stepPlan, actPlan, planOf, clamped, actorOf, aimOf, answerOf, Performs, Sees, Aims}
+use Rattle.interpreter.specs.Plans.{stepPlan, actPlan, stepPlanOf, planOf, clamped, actorOf, aimOf, answerOf, Performs, Sees, Aims}
+
+-- an event that is no step, as the code tells it: by the number of its kind in the enum
+abbrev pub IsOutside : Event → Type 0
+IsOutside e = OneOf (1 ∷ 2 ∷ 3 ∷ 4 ∷ 5 ∷ []) (tagOf the-type e)
+
+no-step : (i : ℕ) → IsOutside (StepOf i) → ⊥
+no-step i h = miss (1 ∷ 2 ∷ 3 ∷ 4 ∷ 5 ∷ []) 0 tt h
 
 pub act-such : (b : Bool) → b ≡ true → Act ≡ actPlan b
 unfolding actPlan
@@ -46,46 +56,37 @@ pub act-none : (b : Bool) → b ≡ false → Halt 3 ≡ actPlan b
 unfolding actPlan
 act-none b e = simp e
 
-module _ (b : List ℕ) (c : Label) (shape : ℕ → Shape) (blocks cells jobs o : ℕ) where
+module _ (b : List ℕ) (jobs o : ℕ) where
   module _ (i : ℕ) where
-    pub step-none : jobs ≤ i → Halt 3 ≡ planOf b c shape blocks cells jobs (StepOf i) o
-    unfolding planOf
+    pub step-none : jobs ≤ i → Halt 3 ≡ stepPlanOf b jobs i o
+    unfolding stepPlanOf
     step-none h = simp (le-ltb _ _ h)
 
-    pub step-left : (x : StepAt) → i < jobs → x ≡ stepFound b o → x ≡ NoStep → Halt 2 ≡ planOf b c shape blocks cells jobs (StepOf i) o
-    unfolding planOf stepPlan
+    pub step-left : (x : StepAt) → i < jobs → x ≡ stepFound b o → x ≡ NoStep → Halt 2 ≡ stepPlanOf b jobs i o
+    unfolding stepPlanOf stepPlan
     step-left x h e n = simp (lt-ltb _ _ h, ← e, n)
 
-    pub step-there : (x : StepAt) (p : Step) (n : ℕ) → i < jobs → x ≡ stepFound b o → x ≡ StepThere p n
-        → Take p n ≡ planOf b c shape blocks cells jobs (StepOf i) o
-    unfolding planOf stepPlan
+    pub step-there : (x : StepAt) (p : Step) (n : ℕ) → i < jobs → x ≡ stepFound b o → x ≡ StepThere p n → Take p n ≡ stepPlanOf b jobs i o
+    unfolding stepPlanOf stepPlan
     step-there x p n h e t = simp (lt-ltb _ _ h, ← e, t)
 
   -- x is what the code found of an event e
-  module _ (e : Event) (x : Plan) where
-    pub plan-step : (i : ℕ) → e ≡ StepOf i → x ≡ planOf b c shape blocks cells jobs (StepOf i) o → x ≡ planOf b c shape blocks cells jobs e o
+  module _ (e : Event) (x : Plan) (t : Bool) where
+    pub plan-step : (i : ℕ) → e ≡ StepOf i → x ≡ stepPlanOf b jobs i o → x ≡ planOf b jobs t e o
+    unfolding planOf
     plan-step i d q = rw d q
 
-    module _ (s : Bool) (es : s ≡ such c shape blocks cells e) (ex : x ≡ actPlan s) where
-      pub plan-write : (q : Label) (k v n : ℕ) → e ≡ WriteBy q k v n → x ≡ planOf b c shape blocks cells jobs e o
-      unfolding planOf
-      plan-write q k v n d = rw d (ex ∙ ap actPlan (rw d at es))
-
-      pub plan-relabel : (q : Label) (k : ℕ) (l : Label) → e ≡ RelabelBy q k l → x ≡ planOf b c shape blocks cells jobs e o
-      unfolding planOf
-      plan-relabel q k l d = rw d (ex ∙ ap actPlan (rw d at es))
-
-      pub plan-new : (q : Label) (i v n : ℕ) → e ≡ NewBy q i v n → x ≡ planOf b c shape blocks cells jobs e o
-      unfolding planOf
-      plan-new q i v n d = rw d (ex ∙ ap actPlan (rw d at es))
-
-      pub plan-exec : (q : Label) (k : ℕ) → e ≡ ExecBy q k → x ≡ planOf b c shape blocks cells jobs e o
-      unfolding planOf
-      plan-exec q k d = rw d (ex ∙ ap actPlan (rw d at es))
-
-      pub plan-start : (q : Label) (k : ℕ) → e ≡ StartBy q k → x ≡ planOf b c shape blocks cells jobs e o
-      unfolding planOf
-      plan-start q k d = rw d (ex ∙ ap actPlan (rw d at es))
+    pub plan-act : x ≡ actPlan t → IsOutside e → x ≡ planOf b jobs t e o
+    unfolding planOf
+    plan-act ex h = ex ∙ sym (go e h)
+      where
+        go : (e : Event) → IsOutside e → planOf b jobs t e o ≡ actPlan t
+        go (StepOf i) h = absurd (no-step i h)
+        go (WriteBy q k v n) h = refl
+        go (RelabelBy q k l) h = refl
+        go (NewBy q i v n) h = refl
+        go (ExecBy q k) h = refl
+        go (StartBy q x) h = refl
 
 pub clamp-in : (k : ℕ) → k < 64 → (k ≡ clamped k) × (k < 64)
 clamp-in k h = (simp (lt-ltb _ _ h), h)
@@ -98,25 +99,17 @@ module _ (e : Event) where
   unfolding actorOf
   actor-step i d = simp d
 
-  pub actor-write : (q : Label) (k v n : ℕ) → e ≡ WriteBy q k v n → 0 ≡ actorOf e
+  pub actor-outside : IsOutside e → 0 ≡ actorOf e
   unfolding actorOf
-  actor-write q k v n d = simp d
-
-  pub actor-relabel : (q : Label) (k : ℕ) (l : Label) → e ≡ RelabelBy q k l → 0 ≡ actorOf e
-  unfolding actorOf
-  actor-relabel q k l d = simp d
-
-  pub actor-new : (q : Label) (i v n : ℕ) → e ≡ NewBy q i v n → 0 ≡ actorOf e
-  unfolding actorOf
-  actor-new q i v n d = simp d
-
-  pub actor-exec : (q : Label) (k : ℕ) → e ≡ ExecBy q k → 0 ≡ actorOf e
-  unfolding actorOf
-  actor-exec q k d = simp d
-
-  pub actor-start : (q : Label) (k : ℕ) → e ≡ StartBy q k → 0 ≡ actorOf e
-  unfolding actorOf
-  actor-start q k d = simp d
+  actor-outside h = go e h
+    where
+      go : (e : Event) → IsOutside e → 0 ≡ actorOf e
+      go (StepOf i) h = absurd (no-step i h)
+      go (WriteBy q k v n) h = refl
+      go (RelabelBy q k l) h = refl
+      go (NewBy q i v n) h = refl
+      go (ExecBy q k) h = refl
+      go (StartBy q x) h = refl
 
   pub aim-step : (i : ℕ) → e ≡ StepOf i → 0 ≡ aimedAt e
   unfolding aimedAt
@@ -227,9 +220,9 @@ module _ (f : Effect) where
   answer-launch b l h d = simp d
 
 pub ruleset planned =
-    (act-such, act-none, step-none, step-left, step-there, plan-step, plan-write, plan-relabel, plan-new, plan-exec, plan-start)
+    (act-such, act-none, step-none, step-left, step-there, plan-step, plan-act)
 
-pub ruleset actors = (clamp-in, clamp-out, actor-step, actor-write, actor-relabel, actor-new, actor-exec, actor-start)
+pub ruleset actors = (clamp-in, clamp-out, actor-step, actor-outside)
 
 pub ruleset aims =
     (aim-step, aim-write, aim-relabel, aim-new, aim-exec, aim-start, number-there, aim-halt, aim-take, aim-act)
@@ -271,14 +264,13 @@ module _ (e : Event) (j : Job) (y : Near) (x : Plan) where
 
 pub ruleset performs = (perform-halt, perform-act, perform-take)
 
-pub sees : (list : List ℕ) (o : ℕ) (e : Event) (p a i : ℕ) → e ≡ eventAt list o → p ≡ next list o → a ≡ actorOf e → i ≡ clamped a → i < 64
-    → Sees list o (record { event = e; next = p; actor = i })
-sees list o e p a i ee ep ea ei h = record { event = ee; next-is = ep; actor = ei ∙ ap clamped ea; inside = h }
+pub sees : (list : List ℕ) (o : ℕ) (c : Label) (shape : ℕ → Shape) (blocks cells : ℕ) (e : Event) (p a i : ℕ) (t : Bool) → e ≡ eventAt list o
+    → p ≡ next list o → a ≡ actorOf e → i ≡ clamped a → i < 64 → t ≡ such c shape blocks cells e
+    → Sees list o c shape blocks cells (record { event = e; next = p; actor = i; such = t })
+sees list o c shape blocks cells e p a i t ee ep ea ei h et = record { event = ee; next-is = ep; actor = ei ∙ ap clamped ea; inside = h; such-is = et }
 
-pub aimed : (b : List ℕ) (c : Label) (shape : ℕ → Shape) (blocks cells jobs : ℕ) (e : Event) (j : Job) (x : Plan) (k q : ℕ)
-    → x ≡ planOf b c shape blocks cells jobs e (j .at) → k ≡ aimOf x e (jobOf j) → q ≡ clamped k → q < 64
-    → Aims b c shape blocks cells jobs e j (record { plan = x; cell = k; entry = q })
-aimed b c shape blocks cells jobs e j x k q ex ek eq h = record { plan = ex; cell = ek; entry = eq; inside = h }
+pub aimed : (p : Plan) (e : Event) (j : Job) (k q : ℕ) → k ≡ aimOf p e (jobOf j) → q ≡ clamped k → q < 64 → Aims p e j (record { cell = k; entry = q })
+aimed p e j k q ek eq h = record { cell = ek; entry = eq; inside = h }
 
 module _ (starts : List ℕ) (x end : ℕ) where
   pub start-in : (o : ℕ) → x < length starts → o ≡ getD starts x 0 → o ≡ startIn starts x end

@@ -25,11 +25,12 @@ use Rattle.acts.specs.declared.Effect.{Effect}
 use Rattle.acts.specs.declared.Effect.the-variants.{Blocked, Keep, Store, Create, Launch}
 use Rattle.acts.specs.Views.{jobOf, effectOf}
 use Rattle.acts.proofs.Nearby.{create-room, launch-room}
+use Rattle.interpreter.specs.declared.Plan.{Plan}
 use Rattle.interpreter.specs.declared.Plan.the-variants.{Halt}
 use Rattle.interpreter.specs.declared.Seen.{Seen}
 use Rattle.interpreter.specs.declared.Aim.{Aim}
 use Rattle.interpreter.specs.declared.Deed.{Deed}
-use Rattle.interpreter.specs.Plans.{Sees, Aims, Performs, actorOf}
+use Rattle.interpreter.specs.Plans.{Sees, Aims, Performs, planOf, actorOf, aimOf}
 use Rattle.tables.specs.Bytes.{savedCells, savedJobs}
 use Rattle.tables.specs.Asked.{NarrowJobs}
 use Rattle.interpreter.specs.Loop.{Placed, Holds, startIn, openedCells, First, Ready}
@@ -83,7 +84,7 @@ module _ (b : List ℕ) (c : Label) (shapes offsets starts list room-cells room-
       omega (arith, p .behind, p .inside, r .short, q)
 
   -- what `perform` asks for
-  pub playing-ready : (seen : Seen) (d : Job) → Sees list o seen → (getD jobs (seen .actor) d .position < 65536) × (n ≤ 64)
+  pub playing-ready : (seen : Seen) (d : Job) → Sees list o c (shapeIn shapes) (length starts) n seen → (getD jobs (seen .actor) d .position < 65536) × (n ≤ 64)
   playing-ready seen d es = (playing-small (seen .actor) d (getD jobs (seen .actor) d) (es .inside) refl, w .cells-fit)
 
   pub playing-sized : (n ≤ 64) × (length room-cells ≡ 576)
@@ -111,111 +112,111 @@ module _ (b : List ℕ) (c : Label) (shapes offsets starts list room-cells room-
     pub playing-fits : at < length now
     playing-fits = let f = answer-fits b list before now cells n jobs m at o (w .going) h (w .setting .room) in omega (arith, w .long)
 
-    module _ (seen : Seen) (es : Sees list o seen) where
+    module _ (seen : Seen) (es : Sees list o c (shapeIn shapes) (length starts) n seen) where
       pub playing-falls : length list - seen .next < length list - o
       playing-falls = let k = walk list o (w .going .whole) h in omega (arith, es .next-is, k .further, k .inside)
 
-      -- what the turn did
-      module _ (d j : Job) (ej : j ≡ getD jobs (seen .actor) d) (aim : Aim) (ea : Aims b c (shapeIn shapes) (length starts) n m (seen .event) j aim)
-          (dc cell : Cell) (ec : cell ≡ getD cells (aim .entry) dc) (z : Deed)
-          (ez : Performs (seen .event) j (record { cell = cell; cells = n; jobs = m }) (aim .plan) z) where
-        turn : Lands b (w .going .state) m (seen .actor) (aim .cell) (outcomeOf sources tableSize (parse b) (w .going .state) (seen .event)) z
-        turn =
-            lands b (shapeIn shapes) (w .setting .shapes-are) (length starts) (blocks-count b starts (w .setting .starts-are)) (w .going .state) cells n
-            jobs m (w .going .holds) (seen .event) (actorOf (seen .event)) (seen .actor) d j (aim .plan) (aim .cell) (aim .entry) dc cell z refl
-            (es .actor) ej (rw (← w .setting .c-is) (ea .plan)) (ea .cell) (ea .entry) ec ez
+      -- what the event asks for, of a job that stands where the array says
+      module _ (d j : Job) (ej : j ≡ getD jobs (seen .actor) d) (plan : Plan)
+          (ep : plan ≡ planOf b m (seen .such) (seen .event) (j .at)) where
+        -- what the turn did
+        module _ (aim : Aim) (ea : Aims plan (seen .event) j aim) (dc cell : Cell) (ec : cell ≡ getD cells (aim .entry) dc) (z : Deed)
+            (ez : Performs (seen .event) j (record { cell = cell; cells = n; jobs = m }) plan z) where
+          turn : Lands b (w .going .state) m (seen .actor) (aim .cell) (outcomeOf sources tableSize (parse b) (w .going .state) (seen .event)) z
+          turn =
+              lands b (shapeIn shapes) (w .setting .shapes-are) (length starts) (blocks-count b starts (w .setting .starts-are)) (w .going .state) cells n
+              jobs m (w .going .holds) (seen .event) (actorOf (seen .event)) (seen .actor) d j plan (aim .cell) (aim .entry) dc cell z refl
+              (es .actor) ej (rw (← w .setting .c-is) (ep ∙ ap (λ t. planOf b m t (seen .event) (j .at)) (es .such-is))) (ea .cell) (ea .entry) ec ez
 
-        further : (cells′ : List Cell) (n′ : ℕ) (jobs′ : List Job) (m′ : ℕ) → n′ ≤ 64
-            → Holds b (stateOf (w .going .state) (seen .actor) (aim .cell) (z .job) (z .effect)) cells′ n′ jobs′ m′
-            → Playing b c shapes offsets starts list room-cells room-jobs before (set now at (z .answer)) cells′ n′ jobs′ m′ (seen .next) (at + 1)
-        further cells′ n′ jobs′ m′ f q =
-            let k = walk list o (w .going .whole) h in
-            record {
-              bound = w .bound;
-              setting = w .setting;
-              going =
-                  going-turn b list before now cells n jobs m at o (w .going) h (w .setting .room) (seen .event) (es .event) (seen .next)
-                  (es .next-is) (seen .actor) (aim .cell) z turn cells′ n′ jobs′ m′ q;
-              long = length-set now at (z .answer) ∙ w .long;
-              cells-fit = f;
-              inside = omega (arith, es .next-is, k .inside);
-              at-most = omega (arith, es .next-is, k .further, w .at-most);
-            }
+          further : (cells′ : List Cell) (n′ : ℕ) (jobs′ : List Job) (m′ : ℕ) → n′ ≤ 64
+              → Holds b (stateOf (w .going .state) (seen .actor) (aim .cell) (z .job) (z .effect)) cells′ n′ jobs′ m′
+              → Playing b c shapes offsets starts list room-cells room-jobs before (set now at (z .answer)) cells′ n′ jobs′ m′ (seen .next) (at + 1)
+          further cells′ n′ jobs′ m′ f q =
+              let k = walk list o (w .going .whole) h in
+              record {
+                bound = w .bound;
+                setting = w .setting;
+                going =
+                    going-turn b list before now cells n jobs m at o (w .going) h (w .setting .room) (seen .event) (es .event) (seen .next)
+                    (es .next-is) (seen .actor) (aim .cell) z turn cells′ n′ jobs′ m′ q;
+                long = length-set now at (z .answer) ∙ w .long;
+                cells-fit = f;
+                inside = omega (arith, es .next-is, k .inside);
+                at-most = omega (arith, es .next-is, k .further, w .at-most);
+              }
 
-        pub playing-blocked : z .effect ≡ Blocked → Playing b c shapes offsets starts list room-cells room-jobs before (set now at (z .answer)) cells n jobs m (seen .next) (at + 1)
-        unfolding stateOf
-        playing-blocked e = further cells n jobs m (w .cells-fit) (rw e (w .going .holds))
+          pub playing-blocked : z .effect ≡ Blocked → Playing b c shapes offsets starts list room-cells room-jobs before (set now at (z .answer)) cells n jobs m (seen .next) (at + 1)
+          unfolding stateOf
+          playing-blocked e = further cells n jobs m (w .cells-fit) (rw e (w .going .holds))
 
-        -- the effect is not blocked
-        module _ (f : Effect) (e : z .effect ≡ f) (a : f ≡ Blocked → ⊥) where
-          standing : seen .actor < m
-          standing = turn .stands (λ q. a (sym e ∙ q))
+          -- the effect is not blocked
+          module _ (f : Effect) (e : z .effect ≡ f) (a : f ≡ Blocked → ⊥) where
+            standing : seen .actor < m
+            standing = turn .stands (λ q. a (sym e ∙ q))
 
-          placed : Placed b (z .job)
-          placed = turn .placed (λ q. a (sym e ∙ q))
+            placed : Placed b (z .job)
+            placed = turn .placed (λ q. a (sym e ∙ q))
 
-        pub playing-keep : z .effect ≡ Keep
-            → Playing b c shapes offsets starts list room-cells room-jobs before (set now at (z .answer)) cells n (set jobs (seen .actor) (z .job)) m (seen .next) (at + 1)
-        playing-keep e =
-            let a : Keep ≡ Blocked → ⊥ = λ q. let u : _≡_ {A = ℕ} 0 1 = cc in omega arith in
-            further cells n (set jobs (seen .actor) (z .job)) m (w .cells-fit)
-            (rw e (holds-keep b (w .going .state) cells n jobs m (w .going .holds) (seen .actor) (aim .cell) (z .job) (standing Keep e a) (placed Keep e a)))
-
-        module _ (x : Cell) where
-          pub playing-store : z .effect ≡ Store x
-              → Playing b c shapes offsets starts list room-cells room-jobs before (set now at (z .answer)) (set cells (aim .cell) x) n (set jobs (seen .actor) (z .job)) m (seen .next)
-              (at + 1)
-          playing-store e =
-              let a : Store x ≡ Blocked → ⊥ = λ q. let u : _≡_ {A = ℕ} 0 1 = cc in omega arith in
-              further (set cells (aim .cell) x) n (set jobs (seen .actor) (z .job)) m (w .cells-fit)
-              (rw e (holds-store b (w .going .state) cells n jobs m (w .going .holds) (seen .actor) (aim .cell) (z .job) (standing (Store x) e a) (placed (Store x) e a) x))
-
-          pub playing-past : z .effect ≡ Store x → 64 ≤ aim .cell
+          pub playing-keep : z .effect ≡ Keep
               → Playing b c shapes offsets starts list room-cells room-jobs before (set now at (z .answer)) cells n (set jobs (seen .actor) (z .job)) m (seen .next) (at + 1)
-          playing-past e k =
-              let a : Store x ≡ Blocked → ⊥ = λ q. let u : _≡_ {A = ℕ} 0 1 = cc in omega arith in
+          playing-keep e =
+              let a : Keep ≡ Blocked → ⊥ = λ q. let u : _≡_ {A = ℕ} 0 1 = cc in omega arith in
               further cells n (set jobs (seen .actor) (z .job)) m (w .cells-fit)
-              (rw e (holds-past b (w .going .state) cells n jobs m (w .going .holds) (seen .actor) (aim .cell) (z .job) (standing (Store x) e a) (placed (Store x) e a) x k))
+              (rw e (holds-keep b (w .going .state) cells n jobs m (w .going .holds) (seen .actor) (aim .cell) (z .job) (standing Keep e a) (placed Keep e a)))
 
-          pub playing-room : z .effect ≡ Create x → n < 64
-          unfolding effectOf
-          playing-room e = let r = create-room (w .going .state) (rw e at (turn .room)) in omega (arith, cells-in-use b (w .going .state) cells n jobs m (w .going .holds))
+          module _ (x : Cell) where
+            pub playing-store : z .effect ≡ Store x
+                → Playing b c shapes offsets starts list room-cells room-jobs before (set now at (z .answer)) (set cells (aim .cell) x) n (set jobs (seen .actor) (z .job)) m (seen .next)
+                (at + 1)
+            playing-store e =
+                let a : Store x ≡ Blocked → ⊥ = λ q. let u : _≡_ {A = ℕ} 0 1 = cc in omega arith in
+                further (set cells (aim .cell) x) n (set jobs (seen .actor) (z .job)) m (w .cells-fit)
+                (rw e (holds-store b (w .going .state) cells n jobs m (w .going .holds) (seen .actor) (aim .cell) (z .job) (standing (Store x) e a) (placed (Store x) e a) x))
 
-          pub playing-create : z .effect ≡ Create x
-              → Playing b c shapes offsets starts list room-cells room-jobs before (set now at (z .answer)) (set cells n x) (n + 1) (set jobs (seen .actor) (z .job)) m (seen .next)
-              (at + 1)
-          playing-create e =
-              let a : Create x ≡ Blocked → ⊥ = λ q. let u : _≡_ {A = ℕ} 0 1 = cc in omega arith in
-              let r = playing-room e in
-              further (set cells n x) (n + 1) (set jobs (seen .actor) (z .job)) m (omega arith)
-              (rw e (holds-create b (w .going .state) cells n jobs m (w .going .holds) (seen .actor) (aim .cell) (z .job) (standing (Create x) e a) (placed (Create x) e a) x r))
+            pub playing-past : z .effect ≡ Store x → 64 ≤ aim .cell
+                → Playing b c shapes offsets starts list room-cells room-jobs before (set now at (z .answer)) cells n (set jobs (seen .actor) (z .job)) m (seen .next) (at + 1)
+            playing-past e k =
+                let a : Store x ≡ Blocked → ⊥ = λ q. let u : _≡_ {A = ℕ} 0 1 = cc in omega arith in
+                further cells n (set jobs (seen .actor) (z .job)) m (w .cells-fit)
+                (rw e (holds-past b (w .going .state) cells n jobs m (w .going .holds) (seen .actor) (aim .cell) (z .job) (standing (Store x) e a) (placed (Store x) e a) x k))
 
-        module _ (x : ℕ) (l g : Label) where
-          pub playing-free : z .effect ≡ Launch x l g → m < 64
-          unfolding effectOf
-          playing-free e = let r = launch-room (w .going .state) (rw e at (turn .room)) in omega (arith, jobs-in-use b (w .going .state) cells n jobs m (w .going .holds))
+            pub playing-room : z .effect ≡ Create x → n < 64
+            unfolding effectOf
+            playing-room e = let r = create-room (w .going .state) (rw e at (turn .room)) in omega (arith, cells-in-use b (w .going .state) cells n jobs m (w .going .holds))
 
-          pub playing-launch : (start : ℕ) (child : Job) → z .effect ≡ Launch x l g → start ≡ startIn starts x (length b)
-              → jobOf child ≡ freshJob sources x l g → child .at ≡ start → child .position ≡ 0 → child .block ≡ x
-              → Playing b c shapes offsets starts list room-cells room-jobs before (set now at (z .answer)) cells n (set (set jobs (seen .actor) (z .job)) m child) (m + 1) (seen .next)
-              (at + 1)
-          playing-launch start child e st ef ea′ ep eb =
-              let a : Launch x l g ≡ Blocked → ⊥ = λ q. let u : _≡_ {A = ℕ} 0 1 = cc in omega arith in
-              further cells n (set (set jobs (seen .actor) (z .job)) m child) (m + 1) (w .cells-fit)
-              (rw e
-              (holds-launch b (w .going .state) cells n jobs m (w .going .holds) (seen .actor) (aim .cell) (z .job) (standing (Launch x l g) e a)
-              (placed (Launch x l g) e a) x l g child (playing-free e) ef
-              (placed-fresh b (w .setting .readable) starts (w .setting .starts-are) child x eb ep (ea′ ∙ st))))
+            pub playing-create : z .effect ≡ Create x
+                → Playing b c shapes offsets starts list room-cells room-jobs before (set now at (z .answer)) (set cells n x) (n + 1) (set jobs (seen .actor) (z .job)) m (seen .next)
+                (at + 1)
+            playing-create e =
+                let a : Create x ≡ Blocked → ⊥ = λ q. let u : _≡_ {A = ℕ} 0 1 = cc in omega arith in
+                let r = playing-room e in
+                further (set cells n x) (n + 1) (set jobs (seen .actor) (z .job)) m (omega arith)
+                (rw e (holds-create b (w .going .state) cells n jobs m (w .going .holds) (seen .actor) (aim .cell) (z .job) (standing (Create x) e a) (placed (Create x) e a) x r))
 
-      -- the event is answered at once; which cell is looked up then plays no part
-      pub playing-halted : (d j : Job) → j ≡ getD jobs (seen .actor) d → (aim : Aim) → Aims b c (shapeIn shapes) (length starts) n m (seen .event) j aim
-          → (a : ℕ) → aim .plan ≡ Halt a
-          → Playing b c shapes offsets starts list room-cells room-jobs before (set now at a) cells n jobs m (seen .next) (at + 1)
-      unfolding Performs
-      playing-halted d j ej aim ea a e =
-          let x : Cell = record { shape = 0; label = label 0; content = record { value = Plain 0; source = label 0 } } in
-          playing-blocked d j ej aim ea x (getD cells (aim .entry) x) refl (record { answer = a; job = j; effect = Blocked })
-          (rw e (record { effect = refl; job = refl; answer = refl })) refl
+          module _ (x : ℕ) (l g : Label) where
+            pub playing-free : z .effect ≡ Launch x l g → m < 64
+            unfolding effectOf
+            playing-free e = let r = launch-room (w .going .state) (rw e at (turn .room)) in omega (arith, jobs-in-use b (w .going .state) cells n jobs m (w .going .holds))
+
+            pub playing-launch : (start : ℕ) (child : Job) → z .effect ≡ Launch x l g → start ≡ startIn starts x (length b)
+                → jobOf child ≡ freshJob sources x l g → child .at ≡ start → child .position ≡ 0 → child .block ≡ x
+                → Playing b c shapes offsets starts list room-cells room-jobs before (set now at (z .answer)) cells n (set (set jobs (seen .actor) (z .job)) m child) (m + 1) (seen .next)
+                (at + 1)
+            playing-launch start child e st ef ea′ ep eb =
+                let a : Launch x l g ≡ Blocked → ⊥ = λ q. let u : _≡_ {A = ℕ} 0 1 = cc in omega arith in
+                further cells n (set (set jobs (seen .actor) (z .job)) m child) (m + 1) (w .cells-fit)
+                (rw e
+                (holds-launch b (w .going .state) cells n jobs m (w .going .holds) (seen .actor) (aim .cell) (z .job) (standing (Launch x l g) e a)
+                (placed (Launch x l g) e a) x l g child (playing-free e) ef
+                (placed-fresh b (w .setting .readable) starts (w .setting .starts-are) child x eb ep (ea′ ∙ st))))
+
+        -- the event is answered at once; which cell is looked up then plays no part
+        pub playing-halted : (a : ℕ) → plan ≡ Halt a → Playing b c shapes offsets starts list room-cells room-jobs before (set now at a) cells n jobs m (seen .next) (at + 1)
+        unfolding Performs aimOf
+        playing-halted a e =
+            let x : Cell = record { shape = 0; label = label 0; content = record { value = Plain 0; source = label 0 } } in
+            playing-blocked (record { cell = 0; entry = 0 }) (record { cell = rw e refl; entry = refl; inside = omega arith }) x (getD cells 0 x) refl
+            (record { answer = a; job = j; effect = Blocked }) (rw e (record { effect = refl; job = refl; answer = refl })) refl
 
 pub ruleset plays = (
   playing-start,

@@ -43,15 +43,18 @@ unfoldable pub actPlan : Bool → Plan
 actPlan true = Act
 actPlan false = Halt noSuch
 
--- in the book b, whose C, shapes and number of blocks these are, with so many cells and jobs; the job's next step is at o
-module _ (b : List ℕ) (c : Label) (shape : ℕ → Shape) (blocks cells jobs : ℕ) where
-  unfoldable pub planOf : Event → ℕ → Plan
-  planOf (StepOf i) o = if ltb i jobs then stepPlan (stepFound b o) else Halt noSuch
-  planOf (WriteBy q k v n) o = actPlan (such c shape blocks cells (WriteBy q k v n))
-  planOf (RelabelBy q k l) o = actPlan (such c shape blocks cells (RelabelBy q k l))
-  planOf (NewBy q i v n) o = actPlan (such c shape blocks cells (NewBy q i v n))
-  planOf (ExecBy q k) o = actPlan (such c shape blocks cells (ExecBy q k))
-  planOf (StartBy q x) o = actPlan (such c shape blocks cells (StartBy q x))
+-- in the book b, with so many jobs in use, a step of job i, whose next step is at o
+unfoldable pub stepPlanOf : List ℕ → ℕ → ℕ → ℕ → Plan
+stepPlanOf b jobs i o = if ltb i jobs then stepPlan (stepFound b o) else Halt noSuch
+
+-- an event, where t says whether there is what it names
+unfoldable pub planOf : List ℕ → ℕ → Bool → Event → ℕ → Plan
+planOf b jobs t (StepOf i) o = stepPlanOf b jobs i o
+planOf b jobs t (WriteBy q k v n) o = actPlan t
+planOf b jobs t (RelabelBy q k l) o = actPlan t
+planOf b jobs t (NewBy q i v n) o = actPlan t
+planOf b jobs t (ExecBy q k) o = actPlan t
+planOf b jobs t (StartBy q x) o = actPlan t
 
 -- a number in a table of 64
 abbrev pub clamped : ℕ → ℕ
@@ -99,16 +102,17 @@ Performs e j y (Halt a) x = Halted a j x
 Performs e j y (Take p o) x = Stepped j y p o x
 Performs e j y Act x = Acted e j y x
 
--- the event at o of the list, the offset past it, and the entry of the job that acts
-pub record Sees (list : List ℕ) (o : ℕ) (x : Seen) : Type 0 where
+-- the event at o of the list, the offset past it, the entry of the job that acts, and whether there is what the event names, in a book of
+-- these C, shapes and number of blocks, with so many cells in use
+pub record Sees (list : List ℕ) (o : ℕ) (c : Label) (shape : ℕ → Shape) (blocks cells : ℕ) (x : Seen) : Type 0 where
   pub event : x .event ≡ eventAt list o
   pub next-is : x .next ≡ next list o
   pub actor : x .actor ≡ clamped (actorOf (x .event))
   pub inside : x .actor < 64
+  pub such-is : x .such ≡ such c shape blocks cells (x .event)
 
--- the plan for the event e of job j, the cell that it reaches, and the entry at which that is looked up
-pub record Aims (b : List ℕ) (c : Label) (shape : ℕ → Shape) (blocks cells jobs : ℕ) (e : Event) (j : Job) (x : Aim) : Type 0 where
-  pub plan : x .plan ≡ planOf b c shape blocks cells jobs e (j .at)
-  pub cell : x .cell ≡ aimOf (x .plan) e (jobOf j)
+-- the cell that the event e of job j reaches by its plan, and the entry at which it is looked up
+pub record Aims (p : Plan) (e : Event) (j : Job) (x : Aim) : Type 0 where
+  pub cell : x .cell ≡ aimOf p e (jobOf j)
   pub entry : x .entry ≡ clamped (x .cell)
   pub inside : x .entry < 64

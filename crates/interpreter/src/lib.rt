@@ -18,16 +18,16 @@ pub enum Plan {
     Act,
 }
 
-// The event at an offset, the offset past it, and the entry of the job that acts.
+// The event at an offset, the offset past it, the entry of the job that acts, and whether it is answered by other than 3.
 pub struct Seen {
     pub event: Event,
     pub next: usize,
     pub actor: usize,
+    pub such: bool,
 }
 
-// What an event asks for, the cell that is reached, and the entry at which it is looked up.
+// The cell that is reached, and the entry at which it is looked up.
 pub struct Aim {
-    pub plan: Plan,
     pub cell: usize,
     pub entry: usize,
 }

@@ -15,8 +15,7 @@ ghost use Prim.Native.Nat.{_<_, _≤_};
 ghost use Rattle.book.specs.Outline.{shapeIn};
 ghost use Rattle.acts.specs.Views.{jobOf, numberIn, reachedBy};
 ghost use Rattle.acts.specs.Outside.{aimedAt};
-ghost use Rattle.interpreter.specs.Plans.{actPlan, planOf, clamped, actorOf, aimOf, answerOf, Performs, Sees, Aims};
-ghost use Rattle.machine.specs.declared.Event.the-variants.{StepOf};
+ghost use Rattle.interpreter.specs.Plans.{actPlan, stepPlanOf, planOf, clamped, actorOf, aimOf, answerOf, Performs, Sees, Aims};
 ghost use lib.ListN.{length};
 
 fn plan_act(such: bool) -> Plan
@@ -28,17 +27,8 @@ fn plan_act(such: bool) -> Plan
     Plan::Halt(3)
 }
 
-fn plan_step(
-    book: &[u8],
-    c: Label,
-    shapes: &[u8],
-    blocks: usize,
-    cells: usize,
-    jobs: usize,
-    i: u8,
-    o: usize,
-) -> Plan
-    ensures { λ x. ⌜ x ≡ planOf (now (book .entry)) c (shapeIn (now (shapes .entry))) blocks cells jobs (StepOf i) o ⌝ }
+fn plan_step(book: &[u8], jobs: usize, i: u8, o: usize) -> Plan
+    ensures { λ x. ⌜ x ≡ stepPlanOf (now (book .entry)) jobs i o ⌝ }
 {
     if (i as usize) < jobs {
         let StepAt::StepThere(p, next) = book::step_at(book, o) else {
@@ -50,27 +40,13 @@ fn plan_step(
 }
 
 // What an event asks for, where the next step of the job that acts is at o.
-pub fn plan_event(
-    book: &[u8],
-    c: Label,
-    shapes: &[u8],
-    blocks: usize,
-    cells: usize,
-    jobs: usize,
-    e: Event,
-    o: usize,
-) -> Plan
-    ensures { λ x. ⌜ x ≡ planOf (now (book .entry)) c (shapeIn (now (shapes .entry))) blocks cells jobs e o ⌝ }
+pub fn plan_event(book: &[u8], jobs: usize, e: Event, such: bool, o: usize) -> Plan
+    ensures { λ x. ⌜ x ≡ planOf (now (book .entry)) jobs such e o ⌝ }
 {
-    let such = acts::is_such(c, shapes, blocks, cells, e);
-    match e {
-        Event::StepOf(i) => plan_step(book, c, shapes, blocks, cells, jobs, i, o),
-        Event::WriteBy(_, _, _, _) => plan_act(such),
-        Event::RelabelBy(_, _, _) => plan_act(such),
-        Event::NewBy(_, _, _, _) => plan_act(such),
-        Event::ExecBy(_, _) => plan_act(such),
-        Event::StartBy(_, _) => plan_act(such),
+    if let Event::StepOf(i) = e {
+        return plan_step(book, jobs, i, o);
     }
+    plan_act(such)
 }
 
 // A number in a table of 64.
@@ -87,14 +63,10 @@ pub fn clamp(k: usize) -> usize
 pub fn actor_of(e: Event) -> usize
     ensures { λ r. ⌜ r ≡ actorOf e ⌝ }
 {
-    match e {
-        Event::StepOf(i) => i as usize,
-        Event::WriteBy(_, _, _, _) => 0,
-        Event::RelabelBy(_, _, _) => 0,
-        Event::NewBy(_, _, _, _) => 0,
-        Event::ExecBy(_, _) => 0,
-        Event::StartBy(_, _) => 0,
+    if let Event::StepOf(i) = e {
+        return i as usize;
     }
+    0
 }
 
 fn number_in(j: Job, w: u8) -> usize
@@ -197,40 +169,38 @@ pub fn perform(plan: Plan, e: Event, j: Job, near: Near) -> Deed
     }
 }
 
-// The event at an offset of the list, the offset past it, and the job that acts.
-pub fn see_event(list: &[u8], o: usize) -> Seen
+// The event at an offset of the list, the offset past it, the job that acts, and whether there is what the event names.
+pub fn see_event(
+    list: &[u8],
+    o: usize,
+    c: Label,
+    shapes: &[u8],
+    blocks: usize,
+    cells: usize,
+) -> Seen
     requires { ⌜ o < length (now list) ⌝ }
-    ensures { λ x. ⌜ Sees (now (list .entry)) o x ⌝ }
+    ensures { λ x. ⌜ Sees (now (list .entry)) o c (shapeIn (now (shapes .entry))) blocks cells x ⌝ }
 {
     let event = events::event_at(list, o);
     let next = events::next_event(list, o);
     let actor = actor_of(event);
     let entry = clamp(actor);
+    let such = acts::is_such(c, shapes, blocks, cells, event);
     Seen {
         event: event,
         next: next,
         actor: entry,
+        such: such,
     }
 }
 
-// What the event asks for, and the cell that is reached.
-pub fn take_aim(
-    book: &[u8],
-    c: Label,
-    shapes: &[u8],
-    blocks: usize,
-    cells: usize,
-    jobs: usize,
-    e: Event,
-    j: Job,
-) -> Aim
-    ensures { λ x. ⌜ Aims (now (book .entry)) c (shapeIn (now (shapes .entry))) blocks cells jobs e j x ⌝ }
+// The cell that is reached, and the entry at which it is looked up.
+pub fn take_aim(plan: Plan, e: Event, j: Job) -> Aim
+    ensures { λ x. ⌜ Aims plan e j x ⌝ }
 {
-    let plan = plan_event(book, c, shapes, blocks, cells, jobs, e, j.at);
     let cell = aim_of(plan, e, j);
     let entry = clamp(cell);
     Aim {
-        plan: plan,
         cell: cell,
         entry: entry,
     }

@@ -50,17 +50,18 @@ pub fn play(
     let mut o: usize = 0;
     let mut at: usize = 0;
     while o < list.len() {
-        let seen = plans::see_event(list, o);
+        let seen = plans::see_event(list, o, c, shapes, starts.len(), n);
         let e = seen.event;
         let i = seen.actor;
-        let j = begun[i];
-        let aim = plans::take_aim(book, c, shapes, starts.len(), n, m, e, j);
-        let plan = aim.plan;
+        let place = begun[i].at;
+        let plan = plans::plan_event(book, m, e, seen.such, place);
         o = seen.next;
         if let Plan::Halt(a) = plan {
             answers[at] = a;
             at = at + 1;
         } else {
+            let j = begun[i];
+            let aim = plans::take_aim(plan, e, j);
             let k = aim.cell;
             let q = aim.entry;
             let cell = held[q];

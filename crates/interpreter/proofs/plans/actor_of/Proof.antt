@@ -10,53 +10,11 @@ enum-known-e c = search needs
 cast-result : tie.Need-cast-result
 cast-result c = search needs
 
-enum-told : tie.Need-enum-told
-enum-told c = search needs
-
-enum-told-2 : tie.Need-enum-told-2
-enum-told-2 c = search needs
-
-enum-told-3 : tie.Need-enum-told-3
-enum-told-3 c = search needs
-
-enum-told-4 : tie.Need-enum-told-4
-enum-told-4 c = search needs
-
-enum-told-5 : tie.Need-enum-told-5
-enum-told-5 c = search needs
-
 returns : tie.Need-returns
 returns c = search (actors, needs)
 
 returns-2 : tie.Need-returns-2
 returns-2 c = search (actors, needs)
 
-returns-3 : tie.Need-returns-3
-returns-3 c = search (actors, needs)
-
-returns-4 : tie.Need-returns-4
-returns-4 c = search (actors, needs)
-
-returns-5 : tie.Need-returns-5
-returns-5 c = search (actors, needs)
-
-returns-6 : tie.Need-returns-6
-returns-6 c = search (actors, needs)
-
 pub actor-of-spec : {M : Type 1} → statement M
-actor-of-spec =
-    tie.close
-    (tie.spec
-    enum-known-e
-    cast-result
-    enum-told
-    enum-told-2
-    enum-told-3
-    enum-told-4
-    enum-told-5
-    returns
-    returns-2
-    returns-3
-    returns-4
-    returns-5
-    returns-6)
+actor-of-spec = tie.close (tie.spec enum-known-e cast-result returns returns-2)

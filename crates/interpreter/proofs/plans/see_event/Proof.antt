@@ -16,10 +16,13 @@ actor-of-requires c κs = search needs
 clamp-requires : tie.Need-clamp-requires
 clamp-requires c κs = search needs
 
+is-such-requires : tie.Need-is-such-requires
+is-such-requires c κs = search needs
+
 returns : tie.Need-returns
 returns c = search (sees, needs)
 
 pub see-event-spec : {M : Type 1} → statement M
 see-event-spec =
     tie.close
-    (tie.spec event-at-requires next-event-requires actor-of-requires clamp-requires returns)
+    (tie.spec event-at-requires next-event-requires actor-of-requires clamp-requires is-such-requires returns)

@@ -27,6 +27,35 @@ loop-holds c = playing-start _ _ _ _ _ _ _ _ _ _ (c .before .before .before .bef
 see-event-requires : tie.Need-see-event-requires Inv-loop μ-loop
 see-event-requires c κs = search needs
 
+mul-place : tie.Need-mul-place Inv-loop μ-loop
+mul-place c = search needs
+
+element-copy-out-place : tie.Need-element-copy-out-place Inv-loop μ-loop
+element-copy-out-place c = search needs
+
+plan-event-requires : tie.Need-plan-event-requires Inv-loop μ-loop
+plan-event-requires c κs = search needs
+
+enum-known-plan : tie.Need-enum-known-plan Inv-loop μ-loop
+enum-known-plan c = search needs
+
+slice-write-answers : tie.Need-slice-write-answers Inv-loop μ-loop
+slice-write-answers c = search (plays, needs)
+
+add-at : tie.Need-add-at Inv-loop μ-loop
+add-at c = let f = playing-few _ _ _ _ _ _ _ _ _ _ _ _ _ _ _ _ (c .before .before .before .before .before .before .loop .inv) (c .before .before .before .before .before .loop-test .taken) in search needs
+
+loop-less : tie.Need-loop-less Inv-loop μ-loop
+loop-less c =
+    let s = c .before .before .before .before in
+    playing-falls _ _ _ _ _ _ _ _ _ _ _ _ _ _ _ _ (s .before .before .loop .inv) (s .before .loop-test .taken) _ (s .see-event .ensures)
+
+loop-again : tie.Need-loop-again Inv-loop μ-loop
+loop-again c =
+    let l = c .before .before .before in
+    let s = l .before in
+    playing-halted _ _ _ _ _ _ _ _ _ _ _ _ _ _ _ _ (s .before .before .loop .inv) (s .before .loop-test .taken) _ (s .see-event .ensures) _ _ refl _ (l .plan-event .ensures) _ (c .before .plan .given .1)
+
 mul-j : tie.Need-mul-j Inv-loop μ-loop
 mul-j c = search needs
 
@@ -36,26 +65,6 @@ array-copy-out-j c = search needs
 take-aim-requires : tie.Need-take-aim-requires Inv-loop μ-loop
 take-aim-requires c κs = search needs
 
-enum-known-plan : tie.Need-enum-known-plan Inv-loop μ-loop
-enum-known-plan c = search needs
-
-slice-write-answers : tie.Need-slice-write-answers Inv-loop μ-loop
-slice-write-answers c = search (plays, needs)
-
-add-at : tie.Need-add-at Inv-loop μ-loop
-add-at c = let f = playing-few _ _ _ _ _ _ _ _ _ _ _ _ _ _ _ _ (c .before .before .before .before .before .before .before .loop .inv) (c .before .before .before .before .before .before .loop-test .taken) in search needs
-
-loop-less : tie.Need-loop-less Inv-loop μ-loop
-loop-less c =
-    let s = c .before .before .before .before .before in
-    playing-falls _ _ _ _ _ _ _ _ _ _ _ _ _ _ _ _ (s .before .before .loop .inv) (s .before .loop-test .taken) _ (s .see-event .ensures)
-
-loop-again : tie.Need-loop-again Inv-loop μ-loop
-loop-again c =
-    let a = c .before .before .before in
-    let s = a .before .before in
-    playing-halted _ _ _ _ _ _ _ _ _ _ _ _ _ _ _ _ (s .before .before .loop .inv) (s .before .loop-test .taken) _ (s .see-event .ensures) _ _ refl _ (a .take-aim .ensures) _ (c .before .plan .given .1)
-
 mul-cell : tie.Need-mul-cell Inv-loop μ-loop
 mul-cell c = search needs
 
@@ -64,29 +73,30 @@ array-copy-out-cell c = search needs
 
 perform-requires : tie.Need-perform-requires Inv-loop μ-loop
 perform-requires c κs =
-    let s = c .before .before .before .before in
+    let s = c .before .before .before .before .before in
     playing-ready _ _ _ _ _ _ _ _ _ _ _ _ _ _ _ _ (s .before .before .loop .inv) _ _ (s .see-event .ensures)
 
 slice-write-answers-2 : tie.Need-slice-write-answers-2 Inv-loop μ-loop
 slice-write-answers-2 c = search (plays, needs)
 
 add-at-2 : tie.Need-add-at-2 Inv-loop μ-loop
-add-at-2 c = let f = playing-few _ _ _ _ _ _ _ _ _ _ _ _ _ _ _ _ (c .before .before .before .before .before .before .before .loop .inv) (c .before .before .before .before .before .before .loop-test .taken) in search needs
+add-at-2 c = let f = playing-few _ _ _ _ _ _ _ _ _ _ _ _ _ _ _ _ (c .before .before .before .before .before .before .before .before .loop .inv) (c .before .before .before .before .before .before .before .loop-test .taken) in search needs
 
 enum-told : tie.Need-enum-told Inv-loop μ-loop
 enum-told c = search needs
 
 loop-less-2 : tie.Need-loop-less-2 Inv-loop μ-loop
 loop-less-2 c =
-    let s = c .before .before .before .before .before .before .before in
+    let s = c .before .before .before .before .before .before .before .before in
     playing-falls _ _ _ _ _ _ _ _ _ _ _ _ _ _ _ _ (s .before .before .loop .inv) (s .before .loop-test .taken) _ (s .see-event .ensures)
 
 loop-again-2 : tie.Need-loop-again-2 Inv-loop μ-loop
 loop-again-2 c =
     let p = c .before .before in
-    let a = p .before .before .before in
-    let s = a .before .before in
-    playing-blocked _ _ _ _ _ _ _ _ _ _ _ _ _ _ _ _ (s .before .before .loop .inv) (s .before .loop-test .taken) _ (s .see-event .ensures) _ _ refl _ (a .take-aim .ensures) _ _ refl _ (p .perform .ensures) (c .enum-told .given .1)
+    let a = p .before .before in
+    let l = a .before .before .before in
+    let s = l .before in
+    playing-blocked _ _ _ _ _ _ _ _ _ _ _ _ _ _ _ _ (s .before .before .loop .inv) (s .before .loop-test .taken) _ (s .see-event .ensures) _ _ refl _ (l .plan-event .ensures) _ (a .take-aim .ensures) _ _ refl _ (p .perform .ensures) (c .enum-told .given .1)
 
 enum-told-2 : tie.Need-enum-told-2 Inv-loop μ-loop
 enum-told-2 c = search needs
@@ -99,15 +109,16 @@ array-set-from-begun c = search needs
 
 loop-less-3 : tie.Need-loop-less-3 Inv-loop μ-loop
 loop-less-3 c =
-    let s = c .before .before .before .before .before .before .before .before in
+    let s = c .before .before .before .before .before .before .before .before .before in
     playing-falls _ _ _ _ _ _ _ _ _ _ _ _ _ _ _ _ (s .before .before .loop .inv) (s .before .loop-test .taken) _ (s .see-event .ensures)
 
 loop-again-3 : tie.Need-loop-again-3 Inv-loop μ-loop
 loop-again-3 c =
     let p = c .before .before .before in
-    let a = p .before .before .before in
-    let s = a .before .before in
-    playing-keep _ _ _ _ _ _ _ _ _ _ _ _ _ _ _ _ (s .before .before .loop .inv) (s .before .loop-test .taken) _ (s .see-event .ensures) _ _ refl _ (a .take-aim .ensures) _ _ refl _ (p .perform .ensures) (c .before .enum-told2 .given .1)
+    let a = p .before .before in
+    let l = a .before .before .before in
+    let s = l .before in
+    playing-keep _ _ _ _ _ _ _ _ _ _ _ _ _ _ _ _ (s .before .before .loop .inv) (s .before .loop-test .taken) _ (s .see-event .ensures) _ _ refl _ (l .plan-event .ensures) _ (a .take-aim .ensures) _ _ refl _ (p .perform .ensures) (c .before .enum-told2 .given .1)
 
 enum-known-effect : tie.Need-enum-known-effect Inv-loop μ-loop
 enum-known-effect c = search needs
@@ -126,27 +137,29 @@ array-set-from-held c = search needs
 
 loop-less-4 : tie.Need-loop-less-4 Inv-loop μ-loop
 loop-less-4 c =
-    let s = c .before .before .before .before .before .before .before .before .before .before in
+    let s = c .before .before .before .before .before .before .before .before .before .before .before in
     playing-falls _ _ _ _ _ _ _ _ _ _ _ _ _ _ _ _ (s .before .before .loop .inv) (s .before .loop-test .taken) _ (s .see-event .ensures)
 
 loop-again-4 : tie.Need-loop-again-4 Inv-loop μ-loop
 loop-again-4 c =
     let p = c .before .before .before .before .before in
-    let a = p .before .before .before in
-    let s = a .before .before in
-    playing-store _ _ _ _ _ _ _ _ _ _ _ _ _ _ _ _ (s .before .before .loop .inv) (s .before .loop-test .taken) _ (s .see-event .ensures) _ _ refl _ (a .take-aim .ensures) _ _ refl _ (p .perform .ensures) _ (c .before .before .before .effect .given .1)
+    let a = p .before .before in
+    let l = a .before .before .before in
+    let s = l .before in
+    playing-store _ _ _ _ _ _ _ _ _ _ _ _ _ _ _ _ (s .before .before .loop .inv) (s .before .loop-test .taken) _ (s .see-event .ensures) _ _ refl _ (l .plan-event .ensures) _ (a .take-aim .ensures) _ _ refl _ (p .perform .ensures) _ (c .before .before .before .effect .given .1)
 
 loop-less-5 : tie.Need-loop-less-5 Inv-loop μ-loop
 loop-less-5 c =
-    let s = c .before .before .before .before .before .before .before .before .before .before in
+    let s = c .before .before .before .before .before .before .before .before .before .before .before in
     playing-falls _ _ _ _ _ _ _ _ _ _ _ _ _ _ _ _ (s .before .before .loop .inv) (s .before .loop-test .taken) _ (s .see-event .ensures)
 
 loop-again-5 : tie.Need-loop-again-5 Inv-loop μ-loop
 loop-again-5 c =
     let p = c .before .before .before .before .before in
-    let a = p .before .before .before in
-    let s = a .before .before in
-    playing-past _ _ _ _ _ _ _ _ _ _ _ _ _ _ _ _ (s .before .before .loop .inv) (s .before .loop-test .taken) _ (s .see-event .ensures) _ _ refl _ (a .take-aim .ensures) _ _ refl _ (p .perform .ensures) _ (c .before .before .before .effect .given .1) (c .if1 .left)
+    let a = p .before .before in
+    let l = a .before .before .before in
+    let s = l .before in
+    playing-past _ _ _ _ _ _ _ _ _ _ _ _ _ _ _ _ (s .before .before .loop .inv) (s .before .loop-test .taken) _ (s .see-event .ensures) _ _ refl _ (l .plan-event .ensures) _ (a .take-aim .ensures) _ _ refl _ (p .perform .ensures) _ (c .before .before .before .effect .given .1) (c .if1 .left)
 
 enum-known-effect-2 : tie.Need-enum-known-effect-2 Inv-loop μ-loop
 enum-known-effect-2 c = search needs
@@ -163,9 +176,10 @@ mul-held-2 c = search needs
 array-set-from-held-2 : tie.Need-array-set-from-held-2 Inv-loop μ-loop
 array-set-from-held-2 c =
     let p = c .before .before .before .before in
-    let a = p .before .before .before in
-    let s = a .before .before in
-    let f = playing-room _ _ _ _ _ _ _ _ _ _ _ _ _ _ _ _ (s .before .before .loop .inv) (s .before .loop-test .taken) _ (s .see-event .ensures) _ _ refl _ (a .take-aim .ensures) _ _ refl _ (p .perform .ensures) _ (c .before .before .effect2 .given .1) in
+    let a = p .before .before in
+    let l = a .before .before .before in
+    let s = l .before in
+    let f = playing-room _ _ _ _ _ _ _ _ _ _ _ _ _ _ _ _ (s .before .before .loop .inv) (s .before .loop-test .taken) _ (s .see-event .ensures) _ _ refl _ (l .plan-event .ensures) _ (a .take-aim .ensures) _ _ refl _ (p .perform .ensures) _ (c .before .before .effect2 .given .1) in
     search needs
 
 add-n : tie.Need-add-n Inv-loop μ-loop
@@ -173,15 +187,16 @@ add-n c = search needs
 
 loop-less-6 : tie.Need-loop-less-6 Inv-loop μ-loop
 loop-less-6 c =
-    let s = c .before .before .before .before .before .before .before .before .before in
+    let s = c .before .before .before .before .before .before .before .before .before .before in
     playing-falls _ _ _ _ _ _ _ _ _ _ _ _ _ _ _ _ (s .before .before .loop .inv) (s .before .loop-test .taken) _ (s .see-event .ensures)
 
 loop-again-6 : tie.Need-loop-again-6 Inv-loop μ-loop
 loop-again-6 c =
     let p = c .before .before .before .before in
-    let a = p .before .before .before in
-    let s = a .before .before in
-    playing-create _ _ _ _ _ _ _ _ _ _ _ _ _ _ _ _ (s .before .before .loop .inv) (s .before .loop-test .taken) _ (s .see-event .ensures) _ _ refl _ (a .take-aim .ensures) _ _ refl _ (p .perform .ensures) _ (c .before .before .effect2 .given .1)
+    let a = p .before .before in
+    let l = a .before .before .before in
+    let s = l .before in
+    playing-create _ _ _ _ _ _ _ _ _ _ _ _ _ _ _ _ (s .before .before .loop .inv) (s .before .loop-test .taken) _ (s .see-event .ensures) _ _ refl _ (l .plan-event .ensures) _ (a .take-aim .ensures) _ _ refl _ (p .perform .ensures) _ (c .before .before .effect2 .given .1)
 
 enum-known-effect-3 : tie.Need-enum-known-effect-3 Inv-loop μ-loop
 enum-known-effect-3 c = search needs
@@ -201,38 +216,42 @@ fresh-requires c κs = search needs
 mul-begun-5 : tie.Need-mul-begun-5 Inv-loop μ-loop
 mul-begun-5 c =
     let p = c .before .before .before .before .before .before in
-    let a = p .before .before .before in
-    let s = a .before .before in
-    let f = playing-free _ _ _ _ _ _ _ _ _ _ _ _ _ _ _ _ (s .before .before .loop .inv) (s .before .loop-test .taken) _ (s .see-event .ensures) _ _ refl _ (a .take-aim .ensures) _ _ refl _ (p .perform .ensures) _ _ _ (c .before .before .before .before .effect3 .given .1) in
+    let a = p .before .before in
+    let l = a .before .before .before in
+    let s = l .before in
+    let f = playing-free _ _ _ _ _ _ _ _ _ _ _ _ _ _ _ _ (s .before .before .loop .inv) (s .before .loop-test .taken) _ (s .see-event .ensures) _ _ refl _ (l .plan-event .ensures) _ (a .take-aim .ensures) _ _ refl _ (p .perform .ensures) _ _ _ (c .before .before .before .before .effect3 .given .1) in
     search needs
 
 array-set-from-begun-5 : tie.Need-array-set-from-begun-5 Inv-loop μ-loop
 array-set-from-begun-5 c =
     let p = c .before .before .before .before .before .before in
-    let a = p .before .before .before in
-    let s = a .before .before in
-    let f = playing-free _ _ _ _ _ _ _ _ _ _ _ _ _ _ _ _ (s .before .before .loop .inv) (s .before .loop-test .taken) _ (s .see-event .ensures) _ _ refl _ (a .take-aim .ensures) _ _ refl _ (p .perform .ensures) _ _ _ (c .before .before .before .before .effect3 .given .1) in
+    let a = p .before .before in
+    let l = a .before .before .before in
+    let s = l .before in
+    let f = playing-free _ _ _ _ _ _ _ _ _ _ _ _ _ _ _ _ (s .before .before .loop .inv) (s .before .loop-test .taken) _ (s .see-event .ensures) _ _ refl _ (l .plan-event .ensures) _ (a .take-aim .ensures) _ _ refl _ (p .perform .ensures) _ _ _ (c .before .before .before .before .effect3 .given .1) in
     search needs
 
 add-m : tie.Need-add-m Inv-loop μ-loop
 add-m c =
     let p = c .before .before .before .before .before .before in
-    let a = p .before .before .before in
-    let s = a .before .before in
-    let f = playing-free _ _ _ _ _ _ _ _ _ _ _ _ _ _ _ _ (s .before .before .loop .inv) (s .before .loop-test .taken) _ (s .see-event .ensures) _ _ refl _ (a .take-aim .ensures) _ _ refl _ (p .perform .ensures) _ _ _ (c .before .before .before .before .effect3 .given .1) in
+    let a = p .before .before in
+    let l = a .before .before .before in
+    let s = l .before in
+    let f = playing-free _ _ _ _ _ _ _ _ _ _ _ _ _ _ _ _ (s .before .before .loop .inv) (s .before .loop-test .taken) _ (s .see-event .ensures) _ _ refl _ (l .plan-event .ensures) _ (a .take-aim .ensures) _ _ refl _ (p .perform .ensures) _ _ _ (c .before .before .before .before .effect3 .given .1) in
     search needs
 
 loop-less-7 : tie.Need-loop-less-7 Inv-loop μ-loop
 loop-less-7 c =
-    let s = c .before .before .before .before .before .before .before .before .before .before .before in
+    let s = c .before .before .before .before .before .before .before .before .before .before .before .before in
     playing-falls _ _ _ _ _ _ _ _ _ _ _ _ _ _ _ _ (s .before .before .loop .inv) (s .before .loop-test .taken) _ (s .see-event .ensures)
 
 loop-again-7 : tie.Need-loop-again-7 Inv-loop μ-loop
 loop-again-7 c =
     let p = c .before .before .before .before .before .before in
-    let a = p .before .before .before in
-    let s = a .before .before in
-    playing-launch _ _ _ _ _ _ _ _ _ _ _ _ _ _ _ _ (s .before .before .loop .inv) (s .before .loop-test .taken) _ (s .see-event .ensures) _ _ refl _ (a .take-aim .ensures) _ _ refl _ (p .perform .ensures) _ _ _ _ _ (c .before .before .before .before .effect3 .given .1) (c .before .start-of .ensures) (c .fresh .ensures .0) (c .fresh .ensures .1) (c .fresh .ensures .2) (c .fresh .ensures .3)
+    let a = p .before .before in
+    let l = a .before .before .before in
+    let s = l .before in
+    playing-launch _ _ _ _ _ _ _ _ _ _ _ _ _ _ _ _ (s .before .before .loop .inv) (s .before .loop-test .taken) _ (s .see-event .ensures) _ _ refl _ (l .plan-event .ensures) _ (a .take-aim .ensures) _ _ refl _ (p .perform .ensures) _ _ _ _ _ (c .before .before .before .before .effect3 .given .1) (c .before .start-of .ensures) (c .fresh .ensures .0) (c .fresh .ensures .1) (c .fresh .ensures .2) (c .fresh .ensures .3)
 
 save-cells-requires : tie.Need-save-cells-requires Inv-loop μ-loop
 save-cells-requires c κs = playing-sized _ _ _ _ _ _ _ _ _ _ _ _ _ _ _ _ (c .before .before .loop .inv)
@@ -262,14 +281,17 @@ play-spec =
     open-job-requires
     loop-holds
     see-event-requires
-    mul-j
-    array-copy-out-j
-    take-aim-requires
+    mul-place
+    element-copy-out-place
+    plan-event-requires
     enum-known-plan
     slice-write-answers
     add-at
     loop-less
     loop-again
+    mul-j
+    array-copy-out-j
+    take-aim-requires
     mul-cell
     array-copy-out-cell
     perform-requires
