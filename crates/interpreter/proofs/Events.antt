@@ -28,10 +28,10 @@ use Rattle.acts.specs.declared.Job.{Job}
 use Rattle.acts.specs.Views.{jobOf}
 use Rattle.acts.specs.Outside.{lowCellShape, suchValue, suchWrite, suchRelabel, suchNew, suchNumber, such, outside}
 use Rattle.book.proofs.Lists.{at-none}
-use Rattle.interpreter.specs.declared.Plan.{Plan}
-use Rattle.interpreter.specs.declared.Plan.the-variants.{Halt, Take, Act}
-use Rattle.interpreter.specs.declared.Deed.{Deed}
-use Rattle.interpreter.specs.Plans.{stepPlan, actPlan, stepPlanOf, planOf, clamped, actorOf, aimOf, Performs}
+use Rattle.plans.specs.declared.Plan.{Plan}
+use Rattle.plans.specs.declared.Plan.the-variants.{Halt, Take, Act}
+use Rattle.plans.specs.declared.Deed.{Deed}
+use Rattle.plans.specs.Plans.{stepPlan, actPlan, stepPlanOf, planOf, clamped, actorOf, aimOf, Performs}
 use Rattle.interpreter.specs.Loop.{Holds}
 use Rattle.interpreter.proofs.Lands.{Lands, at-once, job-there, jobs-in-use, cells-in-use, step-none, lands-taken, lands-acted}
 

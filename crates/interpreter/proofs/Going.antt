@@ -19,7 +19,7 @@ use Rattle.events.specs.Bytes.{next, eventAt, eventsFrom, eventsIn}
 use Rattle.events.proofs.Walks.{Whole, walk, events-end}
 use Rattle.acts.specs.declared.Cell.{Cell}
 use Rattle.acts.specs.declared.Job.{Job}
-use Rattle.interpreter.specs.declared.Deed.{Deed}
+use Rattle.plans.specs.declared.Deed.{Deed}
 use Rattle.interpreter.specs.Loop.{Holds, opening}
 use Rattle.interpreter.proofs.Lands.{stateOf, Lands}
 

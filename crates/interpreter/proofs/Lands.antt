@@ -40,8 +40,8 @@ use Rattle.acts.specs.declared.Effect.the-variants.{Blocked, Keep, Store, Creat
 use Rattle.acts.specs.Views.{cellOf, jobOf, effectOf, turnTaken, reachedBy}
 use Rattle.acts.specs.Outside.{such, aimedAt, outside}
 use Rattle.acts.proofs.Nearby.{Reached, turn-nearby, outside-nearby, Allowed, blocked-fits, turn-allowed, outside-allowed}
-use Rattle.interpreter.specs.declared.Deed.{Deed}
-use Rattle.interpreter.specs.Plans.{clamped, answerOf, Stepped, Acted, Halted}
+use Rattle.plans.specs.declared.Deed.{Deed}
+use Rattle.plans.specs.Plans.{clamped, answerOf, Stepped, Acted, Halted}
 use Rattle.interpreter.specs.Loop.{Placed, Holds}
 use Rattle.interpreter.proofs.Arrays.{front-get, front-long, left-some, left-none, left-more}
 

@@ -1,4 +1,3 @@
-pub mod Planning
 pub mod Arrays
 pub mod Lands
 pub mod Events

@@ -25,12 +25,12 @@ use Rattle.acts.specs.declared.Effect.{Effect}
 use Rattle.acts.specs.declared.Effect.the-variants.{Blocked, Keep, Store, Create, Launch}
 use Rattle.acts.specs.Views.{jobOf, effectOf}
 use Rattle.acts.proofs.Nearby.{create-room, launch-room}
-use Rattle.interpreter.specs.declared.Plan.{Plan}
-use Rattle.interpreter.specs.declared.Plan.the-variants.{Halt}
-use Rattle.interpreter.specs.declared.Seen.{Seen}
-use Rattle.interpreter.specs.declared.Aim.{Aim}
-use Rattle.interpreter.specs.declared.Deed.{Deed}
-use Rattle.interpreter.specs.Plans.{Sees, Aims, Performs, planOf, actorOf, aimOf}
+use Rattle.plans.specs.declared.Plan.{Plan}
+use Rattle.plans.specs.declared.Plan.the-variants.{Halt}
+use Rattle.plans.specs.declared.Seen.{Seen}
+use Rattle.plans.specs.declared.Aim.{Aim}
+use Rattle.plans.specs.declared.Deed.{Deed}
+use Rattle.plans.specs.Plans.{Sees, Aims, Performs, planOf, actorOf, aimOf}
 use Rattle.tables.specs.Bytes.{savedCells, savedJobs}
 use Rattle.tables.specs.Asked.{NarrowJobs}
 use Rattle.interpreter.specs.Loop.{Placed, Holds, startIn, openedCells, First, Ready}

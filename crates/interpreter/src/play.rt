@@ -1,13 +1,12 @@
 // The events of a run, one after the other.
-use crate::Plan;
 use crate::Ran;
 use crate::opening;
-use crate::plans;
 use acts::Effect;
 use acts::Job;
 use acts::Near;
 use book::Refusal;
 use labels::Label;
+use plans::Plan;
 ghost use mathlib.Core.Path.{_≡_};
 ghost use Prim.Native.Nat.{_≤_};
 ghost use Rattle.book.specs.declared.Refusal.the-variants.{Passed};

@@ -1,6 +1,6 @@
 -- `play::start_of` meets its contract. Assumes nothing.
 use borrow.Author.Needs.{needs}
-use Rattle.interpreter.proofs.Planning.{startings}
+use Rattle.interpreter.proofs.Starts.{startings}
 use Rattle.interpreter.proofs.play.start_of.Statement.{statement}
 use Rattle.interpreter.proofs.play.start_of.Tie as tie
 
