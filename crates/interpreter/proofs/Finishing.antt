@@ -163,10 +163,7 @@ module _ (b : List ℕ) (t : Outline) (list cells jobs before : List ℕ) (y : R
         offsets-are = cells-are b (y .readable) t (y .outlined);
         starts-are = starts-are b (y .readable) t (y .outlined);
         bound-is = ap label bound-first;
-        playable = y .playable;
-        room = y .room;
-        cells-sized = y .cells-sized;
-        jobs-sized = y .jobs-sized;
+        lent = y .lent;
       }
 
 -- r is what reading gave, s what the scan gave
@@ -215,10 +212,7 @@ module _ (b list cells jobs before : List ℕ) (r : Reading) (er : r ≡ reading
         record {
           readable = p .read-is;
           outlined = ap (λ (r : Reading). r .outline) er ∙ simp (p .read-is);
-          playable = p .played-is;
-          room = p .fits;
-          cells-sized = p .cells-are;
-          jobs-sized = p .jobs-are;
+          lent = record { playable = p .played-is; room = p .fits; cells-sized = p .cells-are; jobs-sized = p .jobs-are };
         }
 
     pub run-passed : (x : Run) → f ≡ Passed → x ≡ ranOf Passed b list cells jobs before → x ≡ ran b list cells jobs before

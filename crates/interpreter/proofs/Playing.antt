@@ -63,7 +63,7 @@ playing-start b c shapes offsets starts bound list room-cells room-jobs before y
     record {
       bound = bound;
       setting = y;
-      going = going-start b list before cells (length offsets) (replicate 64 j) 1 (passed-whole list (y .playable)) h;
+      going = going-start b list before cells (length offsets) (replicate 64 j) 1 (passed-whole list (y .lent .playable)) h;
       long = refl;
       cells-fit = h .cells-fit;
       inside = omega arith;
@@ -88,12 +88,12 @@ module _ (b : List ℕ) (c : Label) (shapes offsets starts list room-cells room-
   playing-ready seen d es = (playing-small (seen .actor) d (getD jobs (seen .actor) d) (es .inside) refl, w .cells-fit)
 
   pub playing-sized : (n ≤ 64) × (length room-cells ≡ 576)
-  playing-sized = (w .cells-fit, w .setting .cells-sized)
+  playing-sized = (w .cells-fit, w .setting .lent .cells-sized)
 
   pub playing-begun : length list ≤ o → (m ≤ 64) × (length room-jobs ≡ 3328) × NarrowJobs jobs m
   playing-begun h =
       let p = going-end b list before now cells n jobs m at o (w .going) h in
-      (w .going .holds .jobs-fit, w .setting .jobs-sized, played-narrow b list before now cells n jobs m (w .setting .readable) p)
+      (w .going .holds .jobs-fit, w .setting .lent .jobs-sized, played-narrow b list before now cells n jobs m (w .setting .readable) p)
 
   pub playing-end : (x y : List ℕ) → length list ≤ o → x ≡ savedCells shapes (take n cells) → y ≡ savedJobs (take m jobs)
       → _≡_ {A = Run} (record { refusal = Passed; cellCount = n; jobCount = m; cells = x; jobs = y; answered = now })
@@ -107,10 +107,10 @@ module _ (b : List ℕ) (c : Label) (shapes offsets starts list room-cells room-
 
   module _ (h : o < length list) where
     pub playing-few : at < 65536
-    playing-few = omega (arith, w .at-most, passed-short list (w .setting .playable))
+    playing-few = omega (arith, w .at-most, passed-short list (w .setting .lent .playable))
 
     pub playing-fits : at < length now
-    playing-fits = let f = answer-fits b list before now cells n jobs m at o (w .going) h (w .setting .room) in omega (arith, w .long)
+    playing-fits = let f = answer-fits b list before now cells n jobs m at o (w .going) h (w .setting .lent .room) in omega (arith, w .long)
 
     module _ (seen : Seen) (es : Sees list o c (shapeIn shapes) (length starts) n seen) where
       pub playing-falls : length list - seen .next < length list - o
@@ -137,7 +137,7 @@ module _ (b : List ℕ) (c : Label) (shapes offsets starts list room-cells room-
                 bound = w .bound;
                 setting = w .setting;
                 going =
-                    going-turn b list before now cells n jobs m at o (w .going) h (w .setting .room) (seen .event) (es .event) (seen .next)
+                    going-turn b list before now cells n jobs m at o (w .going) h (w .setting .lent .room) (seen .event) (es .event) (seen .next)
                     (es .next-is) (seen .actor) (aim .cell) z turn cells′ n′ jobs′ m′ q;
                 long = length-set now at (z .answer) ∙ w .long;
                 cells-fit = f;

@@ -72,14 +72,18 @@ pub record First (starts : List ℕ) (bound : Label) (end : ℕ) (j : Job) : Typ
   pub position : j .position ≡ 0
   pub block : j .block ≡ 0
 
--- a readable book and its outline, a list of events, and memory for the tables and the answers: what no refusal holds of
-pub record Runnable (b : List ℕ) (t : Outline) (list cells jobs answers : List ℕ) : Type 0 where
-  pub readable : unreadable b ≡ Passed
-  pub outlined : t ≡ outlineOf b
+-- a list of events, and memory for the tables and the answers: what refusals 9 to 11 do not hold of
+pub record Lent (list cells jobs answers : List ℕ) : Type 0 where
   pub playable : unplayable list ≡ Passed
   pub room : length (eventsIn list) ≤ length answers
   pub cells-sized : length cells ≡ 576
   pub jobs-sized : length jobs ≡ 3328
+
+-- a readable book and its outline, and what is lent: what no refusal holds of
+pub record Runnable (b : List ℕ) (t : Outline) (list cells jobs answers : List ℕ) : Type 0 where
+  pub readable : unreadable b ≡ Passed
+  pub outlined : t ≡ outlineOf b
+  pub lent : Lent list cells jobs answers
 
 -- the same with the parts of the outline that the loop is lent
 pub record Ready (b : List ℕ) (c : Label) (shapes offsets starts : List ℕ) (bound : Label) (list cells jobs answers : List ℕ) : Type 0 where
@@ -89,7 +93,4 @@ pub record Ready (b : List ℕ) (c : Label) (shapes offsets starts : List ℕ) (
   pub offsets-are : offsets ≡ cellsOf b
   pub starts-are : starts ≡ map startAt (blocksOf b)
   pub bound-is : bound ≡ launchLabel (parse b)
-  pub playable : unplayable list ≡ Passed
-  pub room : length (eventsIn list) ≤ length answers
-  pub cells-sized : length cells ≡ 576
-  pub jobs-sized : length jobs ≡ 3328
+  pub lent : Lent list cells jobs answers

@@ -1,6 +1,7 @@
 -- The run of a book, for every list of bytes: its refusals, and what the lent memory holds afterwards. 01, "The machine".
 --     unrunnable      refusals 1 to 6 and 9 to 11
---     Run, ran        the result, and the three lent lists after the call
+--     Run, runBy      the result, and the three lent lists after the call
+--     ran             what they are
 -- Assumes nothing.
 use Prim.Native.Nat.{ℕ}
 use mathlib.Core.List.{List, _++_}
@@ -17,6 +18,7 @@ use Rattle.machine.specs.Events.{tableSize, launchLabel, freshState, stateAfter
 use Rattle.machine.specs.Records.{cellRecords, jobRecords}
 use Rattle.events.specs.Bytes.{eventsIn, unplayable}
 use Rattle.tables.specs.Bytes.{cellTable, jobTable}
+use Rattle.interpreter.specs.declared.Ran.{Ran}
 
 -- "a stage covers the whole book before the next begins"
 unfoldable pub orNext : Refusal → Refusal → Refusal
@@ -50,6 +52,11 @@ pub record Run : Type 0 where
   pub cells : List ℕ
   pub jobs : List ℕ
   pub answered : List ℕ
+
+-- what a call gave, and what it left in the cell table, the job table and the answer buffer
+abbrev pub runBy : Ran → List ℕ → List ℕ → List ℕ → Run
+runBy r cells jobs answered =
+    record { refusal = r .refusal; cellCount = r .cells; jobCount = r .jobs; cells = cells; jobs = jobs; answered = answered }
 
 -- the machine's state after the events: "A run begins fresh"
 abbrev pub finalState : List ℕ → List ℕ → State History

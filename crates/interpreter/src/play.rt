@@ -11,7 +11,7 @@ ghost use mathlib.Core.Path.{_≡_};
 ghost use Prim.Native.Nat.{_≤_};
 ghost use Rattle.book.specs.declared.Refusal.the-variants.{Passed};
 ghost use Rattle.interpreter.specs.Loop.{startIn, Ready};
-ghost use Rattle.interpreter.specs.Run.{Run, ranOf};
+ghost use Rattle.interpreter.specs.Run.{runBy, ranOf};
 
 // Where a block starts in the book; past the blocks the book's end.
 pub fn start_of(starts: &[u16], block: u32, end: usize) -> usize
@@ -38,7 +38,7 @@ pub fn play(
     answers: &mut [u8],
 ) -> Ran
     requires { ⌜ Ready (now book) c (now shapes) (now offsets) (now starts) bound (now list) (now cells) (now jobs) (now answers) ⌝ }
-    ensures { λ r. ⌜ _≡_ {A = Run} (record { refusal = r .refusal; cellCount = r .cells; jobCount = r .jobs; cells = now (cells .exit); jobs = now (jobs .exit); answered = now (answers .exit) }) (ranOf Passed (now (book .entry)) (now (list .entry)) (now (cells .entry)) (now (jobs .entry)) (now (answers .entry))) ⌝ }
+    ensures { λ r. ⌜ runBy r (now (cells .exit)) (now (jobs .exit)) (now (answers .exit)) ≡ ranOf Passed (now (book .entry)) (now (list .entry)) (now (cells .entry)) (now (jobs .entry)) (now (answers .entry)) ⌝ }
     ensures { λ r. ⌜ (r .cells ≤ 64) × (r .jobs ≤ 64) ⌝ }
 {
     let mut held = opening::open_cells(book, offsets);

@@ -7,7 +7,7 @@ use labels::Label;
 ghost use mathlib.Core.Path.{_≡_};
 ghost use Prim.Native.Nat.{_≤_};
 ghost use Rattle.book.specs.declared.Refusal.the-variants.{Passed};
-ghost use Rattle.interpreter.specs.Run.{Run, memoryRefusal, refusalBy, ranOf, ran};
+ghost use Rattle.interpreter.specs.Run.{runBy, memoryRefusal, refusalBy, ranOf, ran};
 ghost use Rattle.interpreter.specs.Loop.{Runnable};
 
 // The refusal of the lent memory: of the tables, then of the answer buffer.
@@ -71,7 +71,7 @@ fn finish(
     answers: &mut [u8],
 ) -> Ran
     requires { ⌜ Runnable (now book) t (now list) (now cells) (now jobs) (now answers) ⌝ }
-    ensures { λ r. ⌜ _≡_ {A = Run} (record { refusal = r .refusal; cellCount = r .cells; jobCount = r .jobs; cells = now (cells .exit); jobs = now (jobs .exit); answered = now (answers .exit) }) (ranOf Passed (now (book .entry)) (now (list .entry)) (now (cells .entry)) (now (jobs .entry)) (now (answers .entry))) ⌝ }
+    ensures { λ r. ⌜ runBy r (now (cells .exit)) (now (jobs .exit)) (now (answers .exit)) ≡ ranOf Passed (now (book .entry)) (now (list .entry)) (now (cells .entry)) (now (jobs .entry)) (now (answers .entry)) ⌝ }
     ensures { λ r. ⌜ (r .cells ≤ 64) × (r .jobs ≤ 64) ⌝ }
 {
     let shapes = t.shape;
@@ -98,7 +98,7 @@ fn finish(
 // Runs the events of a list on a book. Refused by 1 to 6 and 9 to 11, and then nothing is written; else the answers, and the tables of cells
 // and jobs, unused entries zero, answers beyond the events kept.
 pub fn run(book: &[u8], list: &[u8], cells: &mut [u8], jobs: &mut [u8], answers: &mut [u8]) -> Ran
-    ensures { λ r. ⌜ _≡_ {A = Run} (record { refusal = r .refusal; cellCount = r .cells; jobCount = r .jobs; cells = now (cells .exit); jobs = now (jobs .exit); answered = now (answers .exit) }) (ran (now (book .entry)) (now (list .entry)) (now (cells .entry)) (now (jobs .entry)) (now (answers .entry))) ⌝ }
+    ensures { λ r. ⌜ runBy r (now (cells .exit)) (now (jobs .exit)) (now (answers .exit)) ≡ ran (now (book .entry)) (now (list .entry)) (now (cells .entry)) (now (jobs .entry)) (now (answers .entry)) ⌝ }
     ensures { λ r. ⌜ (r .cells ≤ 64) × (r .jobs ≤ 64) ⌝ }
 {
     let r = reading::read(book);
