@@ -115,7 +115,7 @@ parsed-blocks s B e = blocks-pass B s (blocksOf s) e
 
 -- the verdict
 module _ (m n k l : ℕ) where
-  passed : (r : Refusal) (s : List ℕ) → verdictOf r s ≡ Verdicts.Accepted m n k l → (r ≡ B.Passed) × (typed s ≡ Verdicts.Accepted m n k l)
+  pub passed : (r : Refusal) (s : List ℕ) → verdictOf r s ≡ Verdicts.Accepted m n k l → (r ≡ B.Passed) × (typed s ≡ Verdicts.Accepted m n k l)
   unfolding verdictOf
   passed B.Passed s e = (refl, e)
   passed (B.Refused i o) s e = let z : _≡_ {A = ℕ} 0 1 = cc in absurd (omega arith)

@@ -15,7 +15,6 @@ pub mod Begins
 pub mod Bridge
 pub mod Sentences
 pub mod Integrity
-pub mod Eight
 pub mod Packed
 pub mod Tables
 pub mod JobsFit

@@ -12,20 +12,23 @@ use Rattle.book.specs.declared.Refusal.{Refusal}
 use Rattle.book.specs.declared.Refusal.the-variants.{Passed, Refused}
 use Rattle.book.specs.Records.{byteAt}
 use Rattle.book.specs.Book.{parse}
+use Rattle.book.specs.Refusals.{unreadable}
 use Rattle.book.proofs.Every.{all-in, map-from}
+use Rattle.book.proofs.Parsed.{sound}
 use Rattle.typing.specs.declared.Verdict.the-variants.{Accepted}
 use Rattle.typing.specs.Verdict.{verdict}
 use Rattle.machine.specs.Histories.{lists}
 use Rattle.machine.specs.Events.{tableSize, launchLabel}
 use Rattle.machine.specs.Records.{CellRecord, JobRecord, valueRecord, cellRecord, jobRecord, cellRecords, jobRecords}
+use Rattle.machine.proofs.Named.{JobNamed, state-after-named}
 use Rattle.events.specs.Bytes.{eventsIn}
 use Rattle.tables.specs.Bytes.{cellBytes, jobBytes, cellTable, jobTable}
 use Rattle.interpreter.specs.Run.{unrunnable, finalState, ranOf}
 use Rattle.integrity.specs.Integrity.{_isIn_, Recorded}
 use Rattle.integrity.specs.Tables.{TablesKept, Tables}
+use Rattle.integrity.proofs.Bridge.{passed}
 use Rattle.integrity.proofs.Integrity.{integrity}
 use Rattle.integrity.proofs.Packed.{Entry, entry, job-long}
-use Rattle.integrity.proofs.Eight.{Eight, state-after-eight}
 
 -- entry i of each table
 cell-entry : (l : List CellRecord) (i : ℕ) → i < length l → Entry cellBytes 9 l (cellTable l) i
@@ -69,11 +72,12 @@ module _ (book : List ℕ) (shapes cells blocks steps : ℕ) (e : verdict book �
 
   jobs-long : (r : JobRecord) → r isIn jobRecords (finalState book list) → length (jobBytes r) ≡ 52
   jobs-long =
+      let ok = sound book (passed shapes cells blocks steps (unreadable book) book e .0) in
+      let s = state-after-named lists (parse book) tableSize ok (launchLabel (parse book)) (eventsIn list) in
       map-from jobRecord (λ r. length (jobBytes r) ≡ 52) (finalState book list .jobs)
       (λ j m.
       job-long (jobRecord j)
-      (length-map (j .registers) valueRecord
-      ∙ all-in Eight (finalState book list .jobs) j (state-after-eight lists tableSize (parse book) (launchLabel (parse book)) (eventsIn list)) m .eight))
+      (length-map (j .registers) valueRecord ∙ all-in (JobNamed (parse book)) (finalState book list .jobs) j (s .jobs) m .eight))
 
   by-refusal : (r : Refusal) (cs js room : List ℕ) → TablesKept (parse book .c .0) (ranOf r book list cs js room)
   unfolding ranOf

@@ -1,16 +1,16 @@
 -- Of a book whose names exist: in every state that a run reaches, over any histories, each job's block is one of the book's, its position is
--- at most the number of the block's steps, and no value names a block that does not exist.
+-- at most the number of the block's steps, it has eight registers, and no value names a block that does not exist.
 --     Named, .., StateNamed     values, cells, jobs, states
 --     state-after-named         a state that a run reaches
 --     Few, job-few              and so the job's block and position are small
 -- Assumes nothing.
-use mathlib.Core.Path.{_≡_}
+use mathlib.Core.Path.{_≡_, refl, _∙_}
 use mathlib.Core.Bool.{Bool, true}
 use mathlib.Core.Option.{some}
 use mathlib.Core.List.{List, [], _∷_}
 use Prim.Native.Nat.{ℕ, zero, suc, _<_, _≤_}
 use native.Mathlib.Omega.{arith}
-use lib.ListN.{length, getElem?}
+use lib.ListN.{length, length-set, getElem?}
 use borrow.Author.Tests.{ltb-true}
 use Rattle.labels.specs.declared.Label.{Label}
 use Rattle.book.specs.declared.Value.{Value}
@@ -67,6 +67,7 @@ module _ (K : Book) {H : Type 0} where
     pub block : j .block < length (K .blocks)
     pub position : j .position ≤ length (blockOf K (j .block) .steps)
     pub registers : All TracedNamed (j .registers)
+    pub eight : length (j .registers) ≡ 8
 
   pub record StateNamed (s : State H) : Type 0 where
     pub cells : All CellNamed (s .cells)
@@ -102,7 +103,7 @@ module _ (A : Histories) (K : Book) where
 
   fresh-named : (b : ℕ) (l : Label) (h : H) → b < blocks → JobNamed K (freshJob A b l h)
   fresh-named b l h i =
-      record { block = i; position = omega arith; registers = all-replicate (TracedNamed K) 8 (zeroWith A h) (record { value = plain-named }) }
+      record { block = i; position = omega arith; registers = all-replicate (TracedNamed K) 8 (zeroWith A h) (record { value = plain-named }); eight = refl }
 
   -- the acts, in a state whose names exist
   module _ (s : State H) (q : StateNamed K s) (l : Label) (h : H) where
@@ -146,10 +147,10 @@ module _ (A : Histories) (K : Book) where
 
     gets-named : (r : ℕ) (v : Value) (h : H) → Named blocks v → JobNamed K (gets A j r v h)
     gets-named r v h i =
-        record { block = n .block; position = omega arith; registers = all-set (TracedNamed K) (j .registers) r _ (n .registers) (record { value = i }) }
+        record { block = n .block; position = omega arith; registers = all-set (TracedNamed K) (j .registers) r _ (n .registers) (record { value = i }); eight = length-set (j .registers) r _ ∙ n .eight }
 
     moved-named : JobNamed K (moved A j)
-    moved-named = record { block = n .block; position = omega arith; registers = n .registers }
+    moved-named = record { block = n .block; position = omega arith; registers = n .registers; eight = n .eight }
 
     giving-named : (r : ℕ) (v : Value) (h : H) → Named blocks v → TurnNamed K (record { job = gets A j r v h; effect = keep })
     giving-named r v h i = record { job = gets-named r v h i; effect = keep-named }
@@ -174,7 +175,7 @@ module _ (A : Histories) (K : Book) where
     turn-named f cells (Relabel w o) e = through-named w _ (λ k. relabelling-named s q (j .label) (j .history) k o)
     turn-named f cells (Lower l) e =
         given-both (TurnNamed K) stays
-        (λ t. record { job = record { block = n .block; position = omega arith; registers = n .registers }; effect = keep-named })
+        (λ t. record { job = record { block = n .block; position = omega arith; registers = n .registers; eight = n .eight }; effect = keep-named })
     turn-named f cells (Start b) e = record { job = moved-named; effect = starting-named s q (j .label) (j .history) size b (ltb-true _ _ e) }
     turn-named f cells (Exec w) e = through-named w _ (executing-named s q (j .label) (j .history) size)
 
