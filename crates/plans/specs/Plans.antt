@@ -47,7 +47,7 @@ actPlan false = Halt noSuch
 unfoldable pub stepPlanOf : List ℕ → ℕ → ℕ → ℕ → Plan
 stepPlanOf b jobs i o = if ltb i jobs then stepPlan (stepFound b o) else Halt noSuch
 
--- an event, where t says whether there is what it names
+-- an event, where t says whether an outsider may do it
 unfoldable pub planOf : List ℕ → ℕ → Bool → Event → ℕ → Plan
 planOf b jobs t (StepOf i) o = stepPlanOf b jobs i o
 planOf b jobs t (WriteBy q k v n) o = actPlan t
@@ -102,8 +102,8 @@ Performs e j y (Halt a) x = Halted a j x
 Performs e j y (Take p o) x = Stepped j y p o x
 Performs e j y Act x = Acted e j y x
 
--- the event at o of the list, the offset past it, the entry of the job that acts, and whether there is what the event names, in a book of
--- these C, shapes and number of blocks, with so many cells in use
+-- the event at o of the list, the offset past it, the entry of the job that acts, and whether an outsider may do it, in a book of these C,
+-- shapes and number of blocks, with so many cells in use
 pub record Sees (list : List ℕ) (o : ℕ) (c : Label) (shape : ℕ → Shape) (blocks cells : ℕ) (x : Seen) : Type 0 where
   pub event : x .event ≡ eventAt list o
   pub next-is : x .next ≡ next list o

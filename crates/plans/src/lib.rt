@@ -21,7 +21,7 @@ pub enum Plan {
     Act,
 }
 
-// The event at an offset, the offset past it, the entry of the job that acts, and whether it is answered by other than 3.
+// The event at an offset, the offset past it, the entry of the job that acts, and whether an outsider may do it; 3 answers one that may not.
 pub struct Seen {
     pub event: Event,
     pub next: usize,
@@ -193,7 +193,7 @@ pub fn perform(plan: Plan, e: Event, j: Job, near: Near) -> Deed
     }
 }
 
-// The event at an offset of the list, the offset past it, the job that acts, and whether there is what the event names.
+// The event at an offset of the list, the offset past it, the job that acts, and whether an outsider may do it.
 pub fn see_event(
     list: &[u8],
     o: usize,
