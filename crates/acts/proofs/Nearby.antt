@@ -11,7 +11,7 @@ use lib.Dec.{ltb}
 use lib.ListN.{length, getElem?, length-replicate}
 use borrow.Author.Tests.{ltb-true, ltb-false}
 use Rattle.labels.specs.declared.Label.{Label}
-use Rattle.labels.specs.Labels.{label, reaches}
+use Rattle.labels.specs.Labels.{label}
 use Rattle.book.specs.declared.Value.{Value}
 use Rattle.book.specs.declared.Value.the-variants.{Plain, CellName, CodeName}
 use Rattle.book.specs.declared.Step.{Step}

@@ -7,7 +7,7 @@ use mathlib.Core.Path.{_≡_, refl, sym, ap, _∙_}
 use mathlib.Core.Bool.{Bool, true, false}
 use mathlib.Core.Option.{none, some}
 use mathlib.Core.List.{List, [], _∷_, _++_, map}
-use Prim.Native.Nat.{ℕ, suc, _+_, _<_}
+use Prim.Native.Nat.{ℕ, suc, _<_}
 use native.Mathlib.Omega.{arith}
 use lib.Dec.{ltb}
 use lib.ListN.{length, drop, getD, set, getElem?}
@@ -38,7 +38,7 @@ use Rattle.acts.specs.declared.Job.{Job}
 use Rattle.acts.specs.declared.Effect.{Effect}
 use Rattle.acts.specs.declared.Effect.the-variants.{Blocked, Keep, Store, Create, Launch}
 use Rattle.acts.specs.Views.{cellOf, jobOf, effectOf, turnTaken, reachedBy}
-use Rattle.acts.specs.Outside.{such, aimedAt, outside}
+use Rattle.acts.specs.Outside.{aimedAt, outside}
 use Rattle.acts.proofs.Nearby.{Reached, turn-nearby, outside-nearby, Allowed, blocked-fits, turn-allowed, outside-allowed}
 use Rattle.plans.specs.declared.Deed.{Deed}
 use Rattle.plans.specs.Plans.{clamped, answerOf, Stepped, Acted, Halted}

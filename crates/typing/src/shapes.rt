@@ -6,7 +6,7 @@ use labels::Trust;
 ghost use mathlib.Core.Path.{_≡_};
 ghost use Rattle.book.specs.Outline.{shapeIn};
 ghost use Rattle.book.specs.Asked.{Sound};
-ghost use Rattle.typing.specs.Shapes.{isPlain, trustOf, highTrust, alike, knownOf, fits};
+ghost use Rattle.typing.specs.Shapes.{trustOf, highTrust, alike, knownOf, fits};
 ghost use Rattle.typing.specs.Asked.{plainShape};
 
 fn is_plain(x: Shape) -> bool
