@@ -95,7 +95,20 @@ module _ (l : List ℕ) (o w : ℕ) (q : w ≡ span (byteAt l o)) (h : o < lengt
   pub cut-not : (w ≡ 0 → ⊥) → w ≤ length l - o → false ≡ cut l o
   cut-not e b = sym (by.uncut span l o (λ z. e (q ∙ z)) (omega arith))
 
-pub ruleset cuts = (cut-kind, cut-body, cut-not)
+-- a step, which the code asks for first
+module _ (l : List ℕ) (o : ℕ) (e : byteAt l o ≡ 80) where
+  pub next-step : o + 2 ≡ next l o
+  unfolding span
+  next-step = simp e
+
+  module _ (h : o < length l) where
+    pub cut-step : length l - o < 2 → true ≡ cut l o
+    cut-step b = cut-body l o 2 (span-80 _ e) h b
+
+    pub cut-step-not : 2 ≤ length l - o → false ≡ cut l o
+    cut-step-not b = cut-not l o 2 (span-80 _ e) h (λ z. omega (arith, z)) b
+
+pub ruleset cuts = (cut-kind, cut-body, cut-not, cut-step, cut-step-not)
 
 -- the scan has come to o, with n events behind
 pub record Scanning (l : List ℕ) (o n : ℕ) : Type 0 where

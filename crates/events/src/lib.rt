@@ -44,6 +44,12 @@ fn is_cut(list: &[u8], o: usize) -> bool
     ensures { λ r. ⌜ r ≡ cut (now (list .entry)) o ⌝ }
 {
     let k = list[o];
+    if k == 80 {
+        if list.len() - o < 2 {
+            return true;
+        }
+        return false;
+    }
     let w = span_of(k) as usize;
     if w == 0 {
         return true;
@@ -60,6 +66,9 @@ pub fn next_event(list: &[u8], o: usize) -> usize
     ensures { λ r. ⌜ r ≡ next (now (list .entry)) o ⌝ }
 {
     let k = list[o];
+    if k == 80 {
+        return o + 2;
+    }
     let w = span_of(k);
     o + w as usize
 }
