@@ -11,6 +11,7 @@ pub mod Standing
 pub mod Sweep
 pub mod Stages
 pub mod Ranges
+pub mod Screens
 pub mod Decoded
 pub mod Filled
 pub mod ShapeTable

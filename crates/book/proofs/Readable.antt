@@ -1,9 +1,10 @@
 -- Laws of reading: the stages one after the other, and what a book that passes them all has.
---     refuse1, .., accepts  what read answers, from what its stages found
+--     refuse1, .., refuse5  what read answers, from what its stages found
+--     clears                the same of a book that refusals 1 to 5 do not hold of
 --     Readable, readable    a book that none of refusals 1 to 6 holds of
 --     found                 a block of such a book
 -- Assumes nothing.
-use mathlib.Core.Path.{_≡_, refl, _∙_}
+use mathlib.Core.Path.{_≡_, refl, sym, _∙_}
 use mathlib.Core.Bool.{Bool, true, false}
 use mathlib.Core.List.{List}
 use Prim.Native.Nat.{ℕ, _-_, _≤_, _<_}
@@ -20,17 +21,9 @@ use Rattle.book.specs.declared.Reading.{Reading}
 use Rattle.book.specs.Control.{if_then_else_}
 use Rattle.book.specs.Refusals.{cutFault, orderFault, countFault, rangeFault, nameFault, orRefuse, unreadable}
 use Rattle.book.specs.Outline.{outlineOf, refusedReading, readingOf, reading}
-use Rattle.book.specs.Asked.{Whole, Small, Outlined}
+use Rattle.book.specs.Asked.{Whole, Small, Clear, Outlined}
 
 -- what the stages pass on
-module _ (s : List ℕ) (h : length s ≤ 32768) (c2 : cutFault s ≡ Nowhere) where
-  pub pass-small : countFault s ≡ Nowhere → Small s
-  unfolding cutFault
-  pass-small c4 = record { short = h; whole = c2; few = c4 }
-
-  pub pass-outlined : (t : Outline) → countFault s ≡ Nowhere → t ≡ outlineOf s → Outlined s t
-  pass-outlined t c4 et = record { small = pass-small c4; is = et }
-
 pub pass-whole : (s : List ℕ) → cutFault s ≡ Nowhere → Whole s 0
 unfolding cutFault
 pass-whole s c2 = c2
@@ -64,16 +57,29 @@ module _ (s : List ℕ) (h : length s ≤ 32768) where
         unfolding unreadable orRefuse
         refuse5 x o e ex = refused s 5 o x ex (simp (le-ltb _ _ h, c2, c3, c4, e))
 
-        module _ (c5 : rangeFault s ≡ Nowhere) where
-          pub refuse6 : (x : Reading) (o : ℕ) → nameFault s ≡ At o → x ≡ refusedReading 6 o → x ≡ reading s
-          unfolding unreadable orRefuse
-          refuse6 x o e ex = refused s 6 o x ex (simp (le-ltb _ _ h, c2, c3, c4, c5, e))
+  -- what one that refusals 2 to 5 do not hold of passes on; f is what refusal 6 finds
+  module _ (k : Clear s) where
+    pub clear-small : Small s
+    unfolding cutFault
+    clear-small = record { short = h; whole = k .whole; few = k .few }
 
-          pub accepts : (t : Outline) → nameFault s ≡ Nowhere → t ≡ outlineOf s → record { refusal = Passed; outline = t } ≡ reading s
-          unfolding unreadable orRefuse readingOf
-          accepts t e et =
-              let p : unreadable s ≡ Passed = simp (le-ltb _ _ h, c2, c3, c4, c5, e) in
-              rw (p, et) refl
+    pub clear-outlined : (t : Outline) → t ≡ outlineOf s → Outlined s t
+    clear-outlined t et = record { small = clear-small; is = et }
+
+    last : nameFault s ≡ Nowhere → unreadable s ≡ Passed
+    unfolding unreadable orRefuse
+    last e = simp (le-ltb _ _ h, k .whole, k .ordered, k .few, k .narrow, e)
+
+    module _ (f : Fault) (ef : f ≡ nameFault s) where
+      pub clear-refused : (x : Reading) (o : ℕ) → f ≡ At o → x ≡ refusedReading 6 o → x ≡ reading s
+      unfolding unreadable orRefuse
+      clear-refused x o e ex = refused s 6 o x ex (simp (le-ltb _ _ h, k .whole, k .ordered, k .few, k .narrow, ← ef, e))
+
+      pub clear-read : (t : Outline) → f ≡ Nowhere → t ≡ outlineOf s → record { refusal = Passed; outline = t } ≡ reading s
+      unfolding readingOf
+      clear-read t e et = rw (last (sym ef ∙ e), et) refl
+
+pub ruleset clears = (clear-small, clear-outlined, clear-refused, clear-read)
 
 -- none of refusals 1 to 6 holds
 pub record Readable (s : List ℕ) : Type 0 where

@@ -1,7 +1,8 @@
 -- Laws of a stage: a sweep over the records from an offset on, as a loop goes through it. z is what the whole sweep gives.
 --     sweep-end      at the end of the book
 --     sweep-bad      a record at fault
---     sweep-on       past a record that is not
+--     sweep-past     past a record that is whole and not at fault
+--     sweep-on       the same where all records are whole
 --     Cleared, cleared    of a stage that finds no fault: each record, and the records behind it
 -- Assumes nothing.
 use mathlib.Core.Path.{_≡_, refl, sym, _∙_}
@@ -15,10 +16,10 @@ use borrow.Author.Tests.{ltb-true, ltb-false}
 use Rattle.book.specs.declared.Fault.{Fault}
 use Rattle.book.specs.declared.Fault.the-variants.{Nowhere, At}
 use Rattle.book.specs.Control.{sweep}
-use Rattle.book.specs.Records.{next, recordsFrom}
+use Rattle.book.specs.Records.{next, cut, recordsFrom}
 use Rattle.book.specs.Asked.{Whole}
 use Rattle.book.proofs.Every.{All}
-use Rattle.book.proofs.Records.{records-end, walk}
+use Rattle.book.proofs.Records.{records-end, records-more, walk}
 
 module _ {S : Type 0} (bad : S → ℕ → Bool) (on : S → ℕ → S) (end : S → Fault) (s : List ℕ) (t : S) (o : ℕ) (z : Fault)
     (inv : sweep bad on end t (recordsFrom s o) ≡ z) where
@@ -26,14 +27,17 @@ module _ {S : Type 0} (bad : S → ℕ → Bool) (on : S → ℕ → S) (end : S
   unfolding sweep
   sweep-end h = simp (records-end s o h) at inv
 
+  pub sweep-past : o < length s → cut s o ≡ false → bad t o ≡ false → sweep bad on end (on t o) (recordsFrom s (next s o)) ≡ z
+  unfolding sweep
+  sweep-past h k b = simp (records-more s o h k, sweep, b) at inv
+
   module _ (w : Whole s o) (h : o < length s) where
     pub sweep-bad : bad t o ≡ true → At o ≡ z
     unfolding sweep
     sweep-bad b = simp (walk s o w h .list, sweep, b) at inv
 
     pub sweep-on : bad t o ≡ false → sweep bad on end (on t o) (recordsFrom s (next s o)) ≡ z
-    unfolding sweep
-    sweep-on b = simp (walk s o w h .list, sweep, b) at inv
+    sweep-on b = sweep-past h (walk s o w h .uncut) b
 
 pub somewhere : {X : Type 0} {o : ℕ} → At o ≡ Nowhere → X
 somewhere e = let z : _≡_ {A = ℕ} 0 1 = cc in absurd (omega arith)

@@ -2,6 +2,8 @@
 --     Whole              from an offset on, every record is whole
 --     limit              the largest value of a field of a kind; 255 where any byte will do
 --     Small              a book that refusals 1, 2 and 4 do not hold of
+--     Clear              a book that refusals 2 to 5 do not hold of
+--     Fixed, Fit         what a kind fixes; a record that refusals 2 and 5 do not hold of
 --     Outlined           the outline of such a book
 --     Blank, drawn       an outline's tables: zero; and what they make
 --     cellKind           by the table of shapes, whether a shape is a cell shape
@@ -12,7 +14,7 @@
 use mathlib.Core.Path.{_≡_}
 use mathlib.Core.List.{List, map}
 use Prim.Native.Nat.{ℕ, _≤_, _<_}
-use mathlib.Core.Bool.{Bool}
+use mathlib.Core.Bool.{Bool, false}
 use lib.Dec.{eqb}
 use lib.ListN.{length, getD, replicate}
 use Rattle.labels.specs.Labels.{label}
@@ -23,10 +25,10 @@ use Rattle.book.specs.declared.Counts.{Counts}
 use Rattle.book.specs.declared.Outline.{Outline}
 use Rattle.book.specs.declared.Skipped.{Skipped}
 use Rattle.book.specs.Control.{first}
-use Rattle.book.specs.Kinds.{limits}
+use Rattle.book.specs.Kinds.{span, limits}
 use Rattle.book.specs.Records.{byteAt, cut, recordsFrom}
 use Rattle.book.specs.Book.{blocksOf, declaredAt, stepsFrom}
-use Rattle.book.specs.Refusals.{cutFault, countFault}
+use Rattle.book.specs.Refusals.{cutFault, orderFault, countFault, outOfRange, rangeFault}
 use Rattle.book.specs.Outline.{stepsEnd, shapeIn, boundAt, startAt, lengthAt, outlineOf}
 use Rattle.book.specs.Stretch.{cellFound}
 
@@ -44,6 +46,26 @@ pub record Small (s : List ℕ) : Type 0 where
   pub short : length s ≤ 32768
   pub whole : Whole s 0
   pub few : countFault s ≡ Nowhere
+
+-- a book that refusals 2 to 5 do not hold of
+pub record Clear (s : List ℕ) : Type 0 where
+  pub whole : cutFault s ≡ Nowhere
+  pub ordered : orderFault s ≡ Nowhere
+  pub few : countFault s ≡ Nowhere
+  pub narrow : rangeFault s ≡ Nowhere
+
+-- a kind's records have w bytes, and a, b and c are the largest values of their first three fields
+pub record Fixed (k w a b c : ℕ) : Type 0 where
+  pub bytes : w ≡ span k
+  pub one : a ≡ limit k 0
+  pub two : b ≡ limit k 1
+  pub three : c ≡ limit k 2
+
+-- the record at o has w bytes, and refusals 2 and 5 do not hold of it
+pub record Fit (s : List ℕ) (o w : ℕ) : Type 0 where
+  pub bytes : w ≡ span (byteAt s o)
+  pub uncut : cut s o ≡ false
+  pub narrow : outOfRange s o ≡ false
 
 -- by the table of shapes, the shape of a number is a cell shape
 abbrev pub cellKind : List ℕ → ℕ → Bool

@@ -27,7 +27,7 @@ pub fn cut_fault(s: &[u8]) -> Fault
 }
 
 // A record of group g may stand after one of group p.
-fn in_order(p: u8, g: u8) -> bool
+pub fn in_order(p: u8, g: u8) -> bool
     ensures { λ r. ⌜ r ≡ inOrder p g ⌝ }
 {
     if p == 0 {
@@ -43,7 +43,7 @@ fn in_order(p: u8, g: u8) -> bool
 }
 
 // A step counts as of its block's group.
-fn block_group(g: u8) -> u8
+pub fn block_group(g: u8) -> u8
     ensures { λ r. ⌜ r ≡ min g 4 ⌝ }
 {
     if g < 4 { g } else { 4 }
@@ -74,7 +74,7 @@ pub fn order_fault(s: &[u8]) -> Fault
 }
 
 // One record more.
-fn count(n: Tally, g: u8) -> Tally
+pub fn count(n: Tally, g: u8) -> Tally
     requires { ⌜ tooMany n ≡ false ⌝ }
     ensures { λ r. ⌜ r ≡ counted n g ⌝ }
 {
@@ -99,7 +99,7 @@ fn count(n: Tally, g: u8) -> Tally
     m
 }
 
-fn too_many(n: Tally) -> bool
+pub fn too_many(n: Tally) -> bool
     ensures { λ r. ⌜ r ≡ tooMany n ⌝ }
 {
     if 32 < n.shapes {

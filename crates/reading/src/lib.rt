@@ -6,15 +6,36 @@ use book::Found;
 use book::Reading;
 use book::Refusal;
 ghost use mathlib.Core.Path.{_≡_};
+ghost use Prim.Native.Nat.{_≤_};
+ghost use lib.ListN.{length};
+ghost use Rattle.book.specs.Asked.{Clear};
 ghost use Rattle.book.specs.Outline.{reading};
 ghost use Rattle.book.specs.Stretch.{foundBlock, stretch};
 
-// Reads a book: its refusal by 1 to 6, or its outline.
+// Reads a book that refusals 1 to 5 do not hold of: refused by 6, or its outline.
+fn read_clear(book: &[u8]) -> Reading
+    requires { ⌜ (length (now book) ≤ 32768) × Clear (now book) ⌝ }
+    ensures { λ r. ⌜ r ≡ reading (now (book .entry)) ⌝ }
+{
+    let outline = gather::outline(book);
+    if let Fault::At(o) = faults::name_fault(book, outline) {
+        return Reading::refused(6, o);
+    }
+    Reading {
+        refusal: Refusal::Passed,
+        outline: outline,
+    }
+}
+
+// Reads a book: its refusal by 1 to 6, or its outline. The stages of 2 to 5 are gone through only where one of them may hold.
 pub fn read(book: &[u8]) -> Reading
     ensures { λ r. ⌜ r ≡ reading (now (book .entry)) ⌝ }
 {
     if 32768 < book.len() {
         return Reading::refused(1, 0);
+    }
+    if screening::is_clear(book) {
+        return read_clear(book);
     }
     if let Fault::At(o) = faults::cut_fault(book) {
         return Reading::refused(2, o);
@@ -28,14 +49,7 @@ pub fn read(book: &[u8]) -> Reading
     if let Fault::At(o) = faults::range_fault(book) {
         return Reading::refused(5, o);
     }
-    let outline = gather::outline(book);
-    if let Fault::At(o) = faults::name_fault(book, outline) {
-        return Reading::refused(6, o);
-    }
-    Reading {
-        refusal: Refusal::Passed,
-        outline: outline,
-    }
+    read_clear(book)
 }
 
 // Where a block's stretch stands: its refusal by 1 to 6 or 12, or its start and length.

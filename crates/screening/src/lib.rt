@@ -1,0 +1,92 @@
+// Refusals 2 to 5 in one pass: it tells a book that none of them holds of. Which holds first, and where, the stages say.
+use book::Tally;
+ghost use mathlib.Core.Path.{_≡_};
+ghost use mathlib.Core.Bool.{true};
+ghost use Prim.Native.Nat.{_<_};
+ghost use lib.ListN.{length};
+ghost use Rattle.book.specs.Records.{byteAt};
+ghost use Rattle.book.specs.Asked.{Fixed, Fit, Clear};
+
+// The bytes w of the record at an offset, where refusals 2 and 5 do not hold of it; 0 where one does. a, b and c are the largest values
+// of its first three fields.
+fn fit(s: &[u8], o: usize, w: u8, a: u8, b: u8, c: u8) -> u8
+    requires { ⌜ (o < length (now s)) × Fixed (byteAt (now s) o) w a b c ⌝ }
+    ensures { λ r. ⌜ ((r ≡ 0 → ⊥) → Fit (now (s .entry)) o r) ⌝ }
+{
+    if s.len() - o < w as usize {
+        return 0;
+    }
+    if a < book::byte(s, o + 1) {
+        return 0;
+    }
+    if b < book::byte(s, o + 2) {
+        return 0;
+    }
+    if c < book::byte(s, o + 3) {
+        return 0;
+    }
+    w
+}
+
+// The same for a record of any kind. Each has an arm of its own, so that the compiler knows its numbers.
+fn fit_record(s: &[u8], o: usize) -> u8
+    requires { ⌜ o < length (now s) ⌝ }
+    ensures { λ r. ⌜ ((r ≡ 0 → ⊥) → Fit (now (s .entry)) o r) ⌝ }
+{
+    let k = s[o];
+    match k {
+        1 => fit(s, o, 2, 14, 255, 255),
+        16 => fit(s, o, 1, 255, 255, 255),
+        17 => fit(s, o, 2, 15, 255, 255),
+        18 => fit(s, o, 3, 255, 15, 255),
+        32 => fit(s, o, 8, 255, 15, 2),
+        48 => fit(s, o, 2, 15, 255, 255),
+        64 => fit(s, o, 6, 7, 255, 255),
+        65 => fit(s, o, 3, 7, 255, 255),
+        66 => fit(s, o, 3, 7, 255, 255),
+        67 => fit(s, o, 4, 7, 7, 7),
+        68 => fit(s, o, 4, 7, 255, 7),
+        69 => fit(s, o, 3, 7, 7, 255),
+        70 => fit(s, o, 3, 7, 7, 255),
+        71 => fit(s, o, 3, 7, 15, 255),
+        72 => fit(s, o, 2, 15, 255, 255),
+        73 => fit(s, o, 2, 255, 255, 255),
+        74 => fit(s, o, 2, 7, 255, 255),
+        _ => 0,
+    }
+}
+
+// True only where none of refusals 2 to 5 holds.
+pub fn is_clear(s: &[u8]) -> bool
+    ensures { λ r. ⌜ (r ≡ true → Clear (now (s .entry))) ⌝ }
+{
+    let mut o: usize = 0;
+    let mut p: u8 = 0;
+    let mut n = Tally {
+        shapes: 0,
+        cells: 0,
+        blocks: 0,
+        steps: 0,
+    };
+    while o < s.len() {
+        let k = s[o];
+        let g = book::group_of(k);
+        let w = fit_record(s, o);
+        if w == 0 {
+            return false;
+        }
+        let ok = faults::in_order(p, g);
+        if ok {
+            let m = faults::count(n, g);
+            if faults::too_many(m) {
+                return false;
+            }
+            p = faults::block_group(g);
+            n = m;
+            o = o + w as usize;
+        } else {
+            return false;
+        }
+    }
+    p == 4
+}
