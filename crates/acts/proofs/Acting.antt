@@ -1,30 +1,30 @@
 -- Laws of the acts, for the code: an act sees of the cells only the one that it reaches.
---     kinds                                       the number of a value
+--     not-plain, .., kinds                        a value by its kind
 --     writes, relabels, makes, starts, execs      one set for each act
 -- Assumes nothing.
-use mathlib.Core.Path.{_≡_, refl, ap}
+use mathlib.Core.Path.{_≡_, refl}
 use mathlib.Core.Bool.{Bool, true, false}
 use mathlib.Core.Option.{none, some}
 use Prim.Native.Nat.{ℕ, zero, suc, _<_, _≤_}
 use native.Mathlib.Omega.{arith}
 use lib.ListN.{replicate, getElem?, length-replicate}
-use borrow.Author.Tests.{lt-ltb, le-ltb}
+use borrow.Author.Tests.{lt-ltb, le-ltb, ne-eqb}
 use Rattle.labels.specs.declared.Label.{Label}
 use Rattle.labels.specs.Labels.{label, lower, reaches}
-use Rattle.book.specs.declared.Value.{Value}
 use Rattle.book.specs.declared.Value.the-variants.{Plain, CellName, CodeName}
+use Rattle.book.specs.Book.{valueOf}
 use Rattle.book.specs.Control.{both, onSome}
 use Rattle.machine.specs.Control.{given, onPlain, onCell, onCode}
 use Rattle.machine.specs.Histories.{sources}
-use Rattle.machine.specs.States.{Job}
-use Rattle.machine.specs.Acts.{Effect, blocked, launch, unless, isFree, acted, freshJob, execLabel, writing, relabelling, making, starting, executing}
+use Rattle.machine.specs.States.{Job, State}
+use Rattle.machine.specs.Acts.{Effect, blocked, store, create, launch, unless, isFree, acted, freshJob, execLabel, writing, relabelling, making, starting, executing}
+use Rattle.machine.specs.Records.{kindOf, numberOf}
 use Rattle.machine.specs.Events.{tableSize}
 use Rattle.acts.specs.declared.Stored.{Stored}
+use Rattle.acts.specs.declared.Cell.{Cell}
 use Rattle.acts.specs.declared.Near.{Near}
-use Rattle.acts.specs.declared.Named.{Named}
-use Rattle.acts.specs.declared.Named.the-variants.{Of, No}
 use Rattle.acts.specs.declared.Effect.the-variants.{Blocked, Store, Create, Launch}
-use Rattle.acts.specs.Views.{storedOf, cellOf, plainNumber, cellNamed, blockNamed, nearby, effectOf}
+use Rattle.acts.specs.Views.{storedOf, cellOf, nearby, effectOf, jobAfter, kept, Does, Makes}
 
 pub same-some : {A : Type 0} (x : A) (n k : ℕ) → k < n → getElem? (replicate n x) k ≡ some x
 same-some x zero k h = absurd (omega arith)
@@ -36,57 +36,95 @@ same-none x zero k h = refl
 same-none x (suc n) zero h = absurd (omega arith)
 same-none x (suc n) (suc k) h = same-none x n k (omega arith)
 
--- what a case on a value gives, by the number that the code found
-module _ {X : Type 0} (q : Named) (x : X) (f : ℕ → X) where
-  pub not-plain : (v : Value) → q ≡ plainNumber v → q ≡ No → onPlain v x f ≡ x
-  unfolding plainNumber onPlain
-  not-plain (Plain n) e n′ = let z : _≡_ {A = ℕ} 0 1 = cc in absurd (omega arith)
-  not-plain (CellName k) e n = refl
-  not-plain (CodeName b) e n = refl
+-- a value of kind k, as the code tells kinds apart
+value-plain : (k n : ℕ) → k ≡ 0 → valueOf k n ≡ Plain n
+unfolding valueOf
+value-plain k n e = simp e
 
-  pub is-plain : (v : Value) (n : ℕ) → q ≡ plainNumber v → q ≡ Of n → onPlain v x f ≡ f n
-  unfolding plainNumber onPlain
-  is-plain (Plain m) n e o = let z : m ≡ n = cc in ap f z
-  is-plain (CellName k) n e o = let z : _≡_ {A = ℕ} 0 1 = cc in absurd (omega arith)
-  is-plain (CodeName b) n e o = let z : _≡_ {A = ℕ} 0 1 = cc in absurd (omega arith)
+value-cell : (k n : ℕ) → k ≡ 1 → valueOf k n ≡ CellName n
+unfolding valueOf
+value-cell k n e = simp e
 
-  pub not-cell : (v : Value) → q ≡ cellNamed v → q ≡ No → onCell v x f ≡ x
-  unfolding cellNamed onCell
-  not-cell (Plain n) e o = refl
-  not-cell (CellName k) e o = let z : _≡_ {A = ℕ} 0 1 = cc in absurd (omega arith)
-  not-cell (CodeName b) e o = refl
+value-code : (k n : ℕ) → 2 ≤ k → valueOf k n ≡ CodeName n
+unfolding valueOf
+value-code k n h =
+    let a : k ≡ 0 → ⊥ = λ e. omega arith in
+    let b : k ≡ 1 → ⊥ = λ e. omega arith in
+    simp (ne-eqb _ _ a, ne-eqb _ _ b)
 
-  pub is-cell : (v : Value) (k : ℕ) → q ≡ cellNamed v → q ≡ Of k → onCell v x f ≡ f k
-  unfolding cellNamed onCell
-  is-cell (Plain n) k e o = let z : _≡_ {A = ℕ} 0 1 = cc in absurd (omega arith)
-  is-cell (CellName m) k e o = let z : m ≡ k = cc in ap f z
-  is-cell (CodeName b) k e o = let z : _≡_ {A = ℕ} 0 1 = cc in absurd (omega arith)
+pub data Kind (k : ℕ) : Type 0 where
+  plain : k ≡ 0 → Kind k
+  cell : k ≡ 1 → Kind k
+  code : 2 ≤ k → Kind k
 
-  not-code : (v : Value) → q ≡ blockNamed v → q ≡ No → onCode v x f ≡ x
-  unfolding blockNamed onCode
-  not-code (Plain n) e o = refl
-  not-code (CellName k) e o = refl
-  not-code (CodeName b) e o = let z : _≡_ {A = ℕ} 0 1 = cc in absurd (omega arith)
+kind-is : (k : ℕ) → Kind k
+kind-is zero = plain refl
+kind-is (suc zero) = cell refl
+kind-is (suc (suc k)) = code (omega arith)
 
-  is-code : (v : Value) (b : ℕ) → q ≡ blockNamed v → q ≡ Of b → onCode v x f ≡ f b
-  unfolding blockNamed onCode
-  is-code (Plain n) b e o = let z : _≡_ {A = ℕ} 0 1 = cc in absurd (omega arith)
-  is-code (CellName k) b e o = let z : _≡_ {A = ℕ} 0 1 = cc in absurd (omega arith)
-  is-code (CodeName m) b e o = let z : m ≡ b = cc in ap f z
+-- what a case on it gives
+module _ {X : Type 0} (x : X) (f : ℕ → X) (n k : ℕ) where
+  pub not-plain : (k ≡ 0 → ⊥) → onPlain (valueOf k n) x f ≡ x
+  unfolding onPlain
+  not-plain h = go (kind-is k)
+    where
+      go : Kind k → onPlain (valueOf k n) x f ≡ x
+      go (plain e) = absurd (h e)
+      go (cell e) = simp (value-cell k n e)
+      go (code e) = simp (value-code k n e)
 
-pub plain-of : (v : Value) (n : ℕ) → v ≡ Plain n → Of n ≡ plainNumber v
-unfolding plainNumber
-plain-of v n e = simp e
+  pub is-plain : k ≡ 0 → onPlain (valueOf k n) x f ≡ f n
+  unfolding onPlain
+  is-plain e = simp (value-plain k n e)
 
-pub cell-of : (v : Value) (k : ℕ) → v ≡ CellName k → Of k ≡ cellNamed v
-unfolding cellNamed
-cell-of v k e = simp e
+  pub not-cell : (k ≡ 1 → ⊥) → onCell (valueOf k n) x f ≡ x
+  unfolding onCell
+  not-cell h = go (kind-is k)
+    where
+      go : Kind k → onCell (valueOf k n) x f ≡ x
+      go (plain e) = simp (value-plain k n e)
+      go (cell e) = absurd (h e)
+      go (code e) = simp (value-code k n e)
 
-pub block-of : (v : Value) (b : ℕ) → v ≡ CodeName b → Of b ≡ blockNamed v
-unfolding blockNamed
-block-of v b e = simp e
+  pub is-cell : k ≡ 1 → onCell (valueOf k n) x f ≡ f n
+  unfolding onCell
+  is-cell e = simp (value-cell k n e)
 
-pub ruleset kinds = (plain-of, cell-of, block-of)
+  not-code : k < 2 → onCode (valueOf k n) x f ≡ x
+  unfolding onCode
+  not-code h = go (kind-is k)
+    where
+      go : Kind k → onCode (valueOf k n) x f ≡ x
+      go (plain e) = simp (value-plain k n e)
+      go (cell e) = simp (value-cell k n e)
+      go (code e) = absurd (omega arith)
+
+  is-code : 2 ≤ k → onCode (valueOf k n) x f ≡ f n
+  unfolding onCode
+  is-code e = simp (value-code k n e)
+
+-- the number, whatever the kind
+pub number-is : (k n : ℕ) → numberOf (valueOf k n) ≡ n
+number-is k n = go (kind-is k)
+  where
+    go : Kind k → numberOf (valueOf k n) ≡ n
+    go (plain e) = rw (value-plain k n e) refl
+    go (cell e) = rw (value-cell k n e) refl
+    go (code e) = rw (value-code k n e) refl
+
+-- the kind, as the tables show it
+pub kind-low : (k n : ℕ) → k < 2 → k ≡ kindOf (valueOf k n)
+kind-low k n h = go (kind-is k)
+  where
+    go : Kind k → k ≡ kindOf (valueOf k n)
+    go (plain e) = rw (value-plain k n e) e
+    go (cell e) = rw (value-cell k n e) e
+    go (code e) = absurd (omega arith)
+
+pub kind-high : (k n : ℕ) → 2 ≤ k → 2 ≡ kindOf (valueOf k n)
+kind-high k n h = rw (value-code k n h) refl
+
+pub ruleset kinds = (kind-low, kind-high)
 
 -- no job
 abbrev idle : Job Label
@@ -98,6 +136,30 @@ launching l h y b =
     unless (isFree tableSize (nearby y .jobs))
     (launch (freshJob sources b (execLabel l (y .cell .label)) (lower (lower h (y .cell .content .source)) (execLabel l (y .cell .label)))))
 
+-- what the code hands back, by what the effect e of the act is
+module _ {s : State Label} {e : Effect Label} where
+  module _ {k : ℕ} where
+    is-blocked : e ≡ blocked → Does s k e Blocked
+    unfolding effectOf jobAfter kept
+    is-blocked q = record { does = λ j. rw q refl }
+
+    is-store : {c : Cell} → e ≡ store k (cellOf c) → Does s k e (Store c)
+    unfolding effectOf jobAfter kept
+    is-store q = record { does = λ j. rw q refl }
+
+    is-launch : {b : ℕ} {l h : Label} → e ≡ launch (freshJob sources b l h) → Does s k e (Launch b l h)
+    unfolding effectOf jobAfter kept
+    is-launch q = record { does = λ j. rw q refl }
+
+  module _ {r : ℕ} where
+    is-not-made : e ≡ blocked → Makes s r e Blocked
+    unfolding effectOf jobAfter kept
+    is-not-made q = record { does = λ j. rw q refl }
+
+    is-made : {c : Cell} → e ≡ create (cellOf c) → Makes s r e (Create r c)
+    unfolding effectOf jobAfter kept
+    is-made q = record { does = λ j. rw q refl }
+
 -- by an actor of label l and source h; y is what it looks at
 module _ (l h : Label) (y : Near) where
   there : (k : ℕ) → k < y .cells → getElem? (replicate (y .cells) (cellOf (y .cell))) k ≡ some (cellOf (y .cell))
@@ -107,82 +169,87 @@ module _ (l h : Label) (y : Near) where
   nowhere k r = same-none (cellOf (y .cell)) (y .cells) k r
 
   module _ (k : ℕ) (v : Stored) where
-    pub write-none : y .cells ≤ k → effectOf k Blocked ≡ writing sources (nearby y) l h k (storedOf v)
-    unfolding effectOf writing onSome
-    write-none r = simp (nowhere k r)
+    pub write-none : y .cells ≤ k → Does (nearby y) k (writing sources (nearby y) l h k (storedOf v)) Blocked
+    unfolding writing onSome
+    write-none r = is-blocked (simp (nowhere k r))
 
     module _ (r : k < y .cells) (b : Bool) (eb : b ≡ reaches l (y .cell .label)) where
-      pub write-high : b ≡ false → effectOf k Blocked ≡ writing sources (nearby y) l h k (storedOf v)
-      unfolding effectOf writing onSome given
-      write-high f = simp (there k r, ← eb, f)
+      pub write-high : b ≡ false → Does (nearby y) k (writing sources (nearby y) l h k (storedOf v)) Blocked
+      unfolding writing onSome given
+      write-high f = is-blocked (simp (there k r, ← eb, f))
 
       pub write-done : (x : Stored) → b ≡ true → storedOf x ≡ acted sources h (storedOf v)
-          → effectOf k (Store (record { shape = y .cell .shape; label = y .cell .label; content = x })) ≡ writing sources (nearby y) l h k (storedOf v)
-      unfolding effectOf writing onSome given
-      write-done x f e = simp (there k r, ← eb, f, e)
+          → Does (nearby y) k (writing sources (nearby y) l h k (storedOf v))
+          (Store (record { content = x; shape = y .cell .shape; label = y .cell .label }))
+      unfolding writing onSome given
+      write-done x f e = is-store (simp (there k r, ← eb, f, e))
 
   module _ (k : ℕ) (o : Label) where
-    pub relabel-none : y .cells ≤ k → effectOf k Blocked ≡ relabelling sources (nearby y) l h k o
-    unfolding effectOf relabelling onSome
-    relabel-none r = simp (nowhere k r)
+    pub relabel-none : y .cells ≤ k → Does (nearby y) k (relabelling sources (nearby y) l h k o) Blocked
+    unfolding relabelling onSome
+    relabel-none r = is-blocked (simp (nowhere k r))
 
     module _ (r : k < y .cells) (a : Bool) (ea : a ≡ reaches l (y .cell .label)) where
-      pub relabel-old : a ≡ false → effectOf k Blocked ≡ relabelling sources (nearby y) l h k o
-      unfolding effectOf relabelling onSome given both
-      relabel-old f = simp (there k r, ← ea, f)
+      pub relabel-old : a ≡ false → Does (nearby y) k (relabelling sources (nearby y) l h k o) Blocked
+      unfolding relabelling onSome given both
+      relabel-old f = is-blocked (simp (there k r, ← ea, f))
 
       module _ (f : a ≡ true) (b : Bool) (eb : b ≡ reaches l o) where
-        pub relabel-new : b ≡ false → effectOf k Blocked ≡ relabelling sources (nearby y) l h k o
-        unfolding effectOf relabelling onSome given both
-        relabel-new g = simp (there k r, ← ea, f, ← eb, g)
+        pub relabel-new : b ≡ false → Does (nearby y) k (relabelling sources (nearby y) l h k o) Blocked
+        unfolding relabelling onSome given both
+        relabel-new g = is-blocked (simp (there k r, ← ea, f, ← eb, g))
 
         pub relabel-done : b ≡ true
-            → effectOf k (Store (record { shape = y .cell .shape; label = o; content = y .cell .content })) ≡ relabelling sources (nearby y) l h k o
-        unfolding effectOf relabelling onSome given both
-        relabel-done g = simp (there k r, ← ea, f, ← eb, g)
+            → Does (nearby y) k (relabelling sources (nearby y) l h k o)
+            (Store (record { content = y .cell .content; shape = y .cell .shape; label = o }))
+        unfolding relabelling onSome given both
+        relabel-done g = is-store (simp (there k r, ← ea, f, ← eb, g))
 
-  module _ (i : ℕ) (v : Stored) where
-    pub make-full : 64 ≤ y .cells → effectOf 0 Blocked ≡ making sources tableSize (nearby y) l h i (storedOf v)
-    unfolding effectOf making given
-    make-full r = simp (length-replicate (y .cells) (cellOf (y .cell)), le-ltb _ _ r)
+  module _ (r i : ℕ) (v : Stored) where
+    pub make-full : 64 ≤ y .cells → Makes (nearby y) r (making sources tableSize (nearby y) l h i (storedOf v)) Blocked
+    unfolding making given
+    make-full f = is-not-made (simp (length-replicate (y .cells) (cellOf (y .cell)), le-ltb _ _ f))
 
     pub make-done : (x : Stored) → y .cells < 64 → storedOf x ≡ acted sources h (storedOf v)
-        → effectOf 0 (Create (record { shape = i; label = l; content = x })) ≡ making sources tableSize (nearby y) l h i (storedOf v)
-    unfolding effectOf making given
-    make-done x r e = simp (length-replicate (y .cells) (cellOf (y .cell)), lt-ltb _ _ r, e)
+        → Makes (nearby y) r (making sources tableSize (nearby y) l h i (storedOf v)) (Create r (record { content = x; shape = i; label = l }))
+    unfolding making given
+    make-done x f e = is-made (simp (length-replicate (y .cells) (cellOf (y .cell)), lt-ltb _ _ f, e))
 
   module _ (b : ℕ) where
-    pub start-full : 64 ≤ y .jobs → effectOf 0 Blocked ≡ starting sources tableSize (nearby y) l h b
-    unfolding effectOf starting given
-    start-full r = simp (length-replicate (y .jobs) idle, le-ltb _ _ r)
+    pub start-full : 64 ≤ y .jobs → Does (nearby y) 0 (starting sources tableSize (nearby y) l h b) Blocked
+    unfolding starting given
+    start-full r = is-blocked (simp (length-replicate (y .jobs) idle, le-ltb _ _ r))
 
-    pub start-done : y .jobs < 64 → effectOf 0 (Launch b l h) ≡ starting sources tableSize (nearby y) l h b
-    unfolding effectOf starting given
-    start-done r = simp (length-replicate (y .jobs) idle, lt-ltb _ _ r)
+    pub start-done : y .jobs < 64 → Does (nearby y) 0 (starting sources tableSize (nearby y) l h b) (Launch b l h)
+    unfolding starting given
+    start-done r = is-launch (simp (length-replicate (y .jobs) idle, lt-ltb _ _ r))
 
   module _ (k : ℕ) where
-    pub exec-none : y .cells ≤ k → effectOf k Blocked ≡ executing sources tableSize (nearby y) l h k
-    unfolding effectOf executing onSome
-    exec-none r = simp (nowhere k r)
+    pub exec-none : y .cells ≤ k → Does (nearby y) k (executing sources tableSize (nearby y) l h k) Blocked
+    unfolding executing onSome
+    exec-none r = is-blocked (simp (nowhere k r))
 
-    module _ (r : k < y .cells) (q : Named) (eq : q ≡ blockNamed (y .cell .content .value)) where
-      pub exec-other : q ≡ No → effectOf k Blocked ≡ executing sources tableSize (nearby y) l h k
-      unfolding effectOf executing onSome
-      exec-other n = simp (there k r, not-code q blocked (launching l h y) (y .cell .content .value) eq n)
+    module _ (r : k < y .cells) where
+      pub exec-other : y .cell .content .kind < 2 → Does (nearby y) k (executing sources tableSize (nearby y) l h k) Blocked
+      unfolding executing onSome
+      exec-other n =
+          is-blocked (simp (there k r, not-code blocked (launching l h y) (y .cell .content .number) (y .cell .content .kind) n))
 
-      module _ (b : ℕ) (n : q ≡ Of b) where
-        pub exec-full : 64 ≤ y .jobs → effectOf k Blocked ≡ executing sources tableSize (nearby y) l h k
-        unfolding effectOf executing onSome given
+      module _ (n : 2 ≤ y .cell .content .kind) where
+        pub exec-full : 64 ≤ y .jobs → Does (nearby y) k (executing sources tableSize (nearby y) l h k) Blocked
+        unfolding executing onSome given
         exec-full f =
-            simp (there k r, is-code q blocked (launching l h y) (y .cell .content .value) b eq n)
-            (simp (length-replicate (y .jobs) idle, le-ltb _ _ f))
+            is-blocked
+            (simp (there k r, is-code blocked (launching l h y) (y .cell .content .number) (y .cell .content .kind) n)
+            (simp (length-replicate (y .jobs) idle, le-ltb _ _ f)))
 
         pub exec-done : (low s t : Label) → y .jobs < 64 → low ≡ lower l (y .cell .label) → s ≡ lower h (y .cell .content .source) → t ≡ lower s low
-            → effectOf k (Launch b low t) ≡ executing sources tableSize (nearby y) l h k
-        unfolding effectOf executing onSome given execLabel
+            → Does (nearby y) k (executing sources tableSize (nearby y) l h k) (Launch (y .cell .content .number) low t)
+        unfolding executing onSome given execLabel
         exec-done low s t f el es et =
-            simp (there k r, is-code q blocked (launching l h y) (y .cell .content .value) b eq n)
-            (simp (length-replicate (y .jobs) idle, lt-ltb _ _ f, et, es, el))
+            is-launch
+            (simp (there k r, is-code blocked (launching l h y) (y .cell .content .number) (y .cell .content .kind) n)
+            (simp (length-replicate (y .jobs) idle, lt-ltb _ _ f, et, es, el)))
 
 pub ruleset writes = (write-none, write-high, write-done)
 

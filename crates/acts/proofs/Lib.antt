@@ -3,3 +3,4 @@ pub mod Acting
 pub mod Taking
 pub mod Such
 pub mod Nearby
+pub mod Aiming

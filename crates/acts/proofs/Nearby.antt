@@ -1,11 +1,13 @@
 -- An act sees of the cells only the one that it reaches, and of the tables only how full they are.
 --     turn-nearby, outside-nearby      so a step, an outsider's event does nearby what it does in the whole state
 --     Allowed, turn-allowed, ..        what is new fits
+--     step-lands                       what the code hands back for a step lands as the machine's turn
 -- Assumes nothing.
 use mathlib.Core.Path.{_≡_, refl, sym, ap, _∙_}
 use mathlib.Core.Bool.{Bool, true, false}
 use mathlib.Core.Option.{some}
-use Prim.Native.Nat.{ℕ, _<_}
+use mathlib.Core.List.{List, [], _∷_}
+use Prim.Native.Nat.{ℕ, zero, suc, _<_}
 use native.Mathlib.Omega.{arith}
 use lib.Dec.{ltb}
 use lib.ListN.{length, getElem?, length-replicate}
@@ -23,11 +25,15 @@ use Rattle.machine.specs.Histories.{sources}
 use Rattle.machine.specs.States.{Traced, Cell, Job, State}
 use Rattle.machine.specs.Acts.{Effect, blocked, keep, store, create, launch, isFree, freshJob, writing, relabelling, making, starting, executing}
 use Rattle.machine.specs.Steps.{Turn, register, through, reading, adding, lowering, turnOf}
-use Rattle.machine.specs.Events.{tableSize}
+use Rattle.machine.specs.Events.{tableSize, landed, turnLanded}
 use Rattle.machine.proofs.Cases.{given-both, some-both, plain-both, cell-both, code-both}
 use Rattle.book.proofs.Lists.{at-none}
 use Rattle.acts.specs.declared.Near.{Near}
-use Rattle.acts.specs.Views.{cellOf, nearby, numberIn, reachedBy}
+use Rattle.acts.specs.declared.Stored.{Stored}
+use Rattle.acts.specs.declared.Effect as Acts
+use Rattle.acts.specs.declared.Effect.the-variants.{Blocked, Give, Store, Create, Launch}
+use Rattle.acts.specs.declared.Effect.the-variants as Effects
+use Rattle.acts.specs.Views.{cellOf, actor, nearby, effectOf, jobAfter, turnTaken, kept, numberIn, reachedBy, Takes}
 use Rattle.acts.specs.Outside.{aimedAt, outside}
 use Rattle.acts.proofs.Acting.{same-some, same-none}
 
@@ -128,14 +134,22 @@ module _ (s : State Label) (y : Near) (cells-are : length (s .cells) ≡ y .cell
   outside-nearby (ExecBy q k) t = exec-nearby q q k t
   outside-nearby (StartBy q b) t = start-nearby q q b
 
--- what is new fits into the tables of the state s
+there-inside : {A : Type 0} (l : List A) (k : ℕ) (x : A) → getElem? l k ≡ some x → k < length l
+there-inside [] k x e = let z : _≡_ {A = ℕ} 0 1 = cc in absurd (omega arith)
+there-inside (y ∷ ys) zero x e = omega arith
+there-inside (y ∷ ys) (suc k) x e = let h = there-inside ys k x e in omega arith
+
+-- what is written exists, and what is new fits into the tables of the state s
 module _ (s : State Label) where
   pub data Allowed : Effect Label → Type 0 where
     blocked-fits : Allowed blocked
     keep-fits : Allowed keep
-    store-fits : {k : ℕ} {c : Cell Label} → Allowed (store k c)
+    store-fits : {k : ℕ} {c : Cell Label} → k < length (s .cells) → Allowed (store k c)
     create-fits : {c : Cell Label} → length (s .cells) < 64 → Allowed (create c)
     launch-fits : {j : Job Label} → length (s .jobs) < 64 → Allowed (launch j)
+
+  pub store-inside : {k : ℕ} {c : Cell Label} → Allowed (store k c) → k < length (s .cells)
+  store-inside (store-fits h) = h
 
   pub create-room : {c : Cell Label} → Allowed (create c) → length (s .cells) < 64
   create-room (create-fits h) = h
@@ -149,11 +163,11 @@ module _ (s : State Label) where
   module _ (l h : Label) where
     write-allowed : (k : ℕ) (v : Traced Label) → Allowed (writing sources s l h k v)
     unfolding writing
-    write-allowed k v = some-both Allowed blocked-fits (λ c ec. given-both Allowed blocked-fits (λ e. store-fits))
+    write-allowed k v = some-both Allowed blocked-fits (λ c ec. given-both Allowed blocked-fits (λ e. store-fits (there-inside (s .cells) k c ec)))
 
     relabel-allowed : (k : ℕ) (o : Label) → Allowed (relabelling sources s l h k o)
     unfolding relabelling
-    relabel-allowed k o = some-both Allowed blocked-fits (λ c ec. given-both Allowed blocked-fits (λ e. store-fits))
+    relabel-allowed k o = some-both Allowed blocked-fits (λ c ec. given-both Allowed blocked-fits (λ e. store-fits (there-inside (s .cells) k c ec)))
 
     make-allowed : (i : ℕ) (v : Traced Label) → Allowed (making sources tableSize s l h i v)
     unfolding making
@@ -201,3 +215,43 @@ module _ (s : State Label) where
   outside-allowed (NewBy q i v n) = make-allowed q q i _
   outside-allowed (ExecBy q k) = exec-allowed q q k
   outside-allowed (StartBy q b) = start-allowed q q b
+
+-- a blocked turn lands the same, whatever became of its job
+pub settled-lands : (s : State Label) (i : ℕ) (j g : Job Label) (e : Effect Label)
+    → turnLanded s i (record { job = kept j g e; effect = e }) ≡ turnLanded s i (record { job = g; effect = e })
+unfolding turnLanded landed kept
+settled-lands s i j g blocked = refl
+settled-lands s i j g keep = refl
+settled-lands s i j g (store k c) = refl
+settled-lands s i j g (create c) = refl
+settled-lands s i j g (launch n) = refl
+
+-- x is what the code hands back for a step p of job j, which is job i of the state s; y is what it looked at
+module _ (s : State Label) (y : Near) (cells-are : length (s .cells) ≡ y .cells) (jobs-are : length (s .jobs) ≡ y .jobs) where
+  same-after : (j : Job Label) (x : Acts.Effect) → jobAfter s j x ≡ jobAfter (nearby y) j x
+  unfolding jobAfter
+  same-after j Blocked = refl
+  same-after j (Give r v) = refl
+  same-after j (Effects.Lower q h) = refl
+  same-after j (Store c) = refl
+  same-after j (Create r c) = rw (cells-are, length-replicate (y .cells) (cellOf (y .cell))) refl
+  same-after j (Launch b l h) = refl
+
+  pub step-lands : (p : Step) (l h : Label) (rs : List Stored) (b n i : ℕ) (x : Acts.Effect)
+      → Reached s y cells-are jobs-are (reachedBy p (actor l h rs b n)) → Takes (nearby y) p l h rs x
+      → turnLanded s i (turnTaken s (actor l h rs b n) (reachedBy p (actor l h rs b n)) x)
+      ≡ turnLanded s i (turnOf sources tableSize s (actor l h rs b n) p)
+  step-lands p l h rs b n i x r t =
+      ap (λ (g : Job Label). turnLanded s i (record { job = g; effect = effectOf (reachedBy p (actor l h rs b n)) x })) (same-after (actor l h rs b n) x)
+      ∙ ap (turnLanded s i) (t .takes b n)
+      ∙ settled-lands s i (actor l h rs b n) (turnOf sources tableSize (nearby y) (actor l h rs b n) p .job) (turnOf sources tableSize (nearby y) (actor l h rs b n) p .effect)
+      ∙ ap (turnLanded s i) (sym (turn-nearby s y cells-are jobs-are (actor l h rs b n) p r))
+
+  pub step-allowed : (p : Step) (l h : Label) (rs : List Stored) (b n : ℕ) (x : Acts.Effect)
+      → Reached s y cells-are jobs-are (reachedBy p (actor l h rs b n)) → Takes (nearby y) p l h rs x
+      → Allowed s (effectOf (reachedBy p (actor l h rs b n)) x)
+  step-allowed p l h rs b n x r t =
+      let e : effectOf (reachedBy p (actor l h rs b n)) x ≡ turnOf sources tableSize s (actor l h rs b n) p .effect
+      = ap (λ (t : Turn Label). t .effect) (t .takes b n ∙ refl)
+      ∙ sym (ap (λ (t : Turn Label). t .effect) (turn-nearby s y cells-are jobs-are (actor l h rs b n) p r)) in
+      rw e (turn-allowed s (actor l h rs b n) p .effect)

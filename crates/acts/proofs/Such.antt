@@ -8,7 +8,7 @@ use Prim.Native.Nat.{ℕ, _<_, _≤_}
 use lib.Dec.{ltb}
 use borrow.Author.Tests.{lt-ltb, le-ltb, ne-eqb, le-leb, lt-leb}
 use Rattle.labels.specs.declared.Label.{Label}
-use Rattle.labels.specs.Labels.{reaches, isHigh}
+use Rattle.labels.specs.Labels.{label, reaches, isHigh}
 use Rattle.book.specs.declared.Shape.{Shape}
 use Rattle.book.specs.declared.Value.{Value}
 use Rattle.book.specs.Control.{both}
@@ -17,13 +17,16 @@ use Rattle.book.specs.Refusals.{valueNamed}
 use Rattle.machine.specs.declared.Event.{Event}
 use Rattle.machine.specs.declared.Event.the-variants.{StepOf, WriteBy, RelabelBy, NewBy, ExecBy, StartBy}
 use Rattle.machine.specs.Histories.{sources}
-use Rattle.machine.specs.Acts.{writing, relabelling, making, starting, executing}
+use Rattle.machine.specs.States.{State}
+use Rattle.machine.specs.Acts.{freshJob, writing, relabelling, making, starting, executing}
+use Rattle.machine.specs.Acts as Acts
+use Rattle.machine.specs.Steps.{Turn}
 use Rattle.machine.specs.Events.{tableSize, isLabel, brought}
 use Rattle.acts.specs.declared.Stored.{Stored}
 use Rattle.acts.specs.declared.Near.{Near}
 use Rattle.acts.specs.declared.Effect.{Effect}
 use Rattle.acts.specs.declared.Effect.the-variants.{Blocked}
-use Rattle.acts.specs.Views.{storedOf, nearby, effectOf}
+use Rattle.acts.specs.Views.{storedOf, nearby, effectOf, Does, Makes}
 use Rattle.acts.specs.Outside.{lowCellShape, suchValue, suchWrite, suchRelabel, suchNew, suchNumber, such, aimedAt, outside}
 
 module _ (c : Label) (x y : Shape) (e : y ≡ x) where
@@ -146,38 +149,41 @@ pub ruleset suches = (
   such-start,
 )
 
-pub brings : (q : Label) (k n : ℕ) (v : Value) → v ≡ valueOf k n → storedOf (record { value = v; source = q }) ≡ brought sources q k n
-brings q k n v e = simp e
+pub outside-step : (y : Near) (e : Event) (i : ℕ) → e ≡ StepOf i → effectOf (aimedAt e) Blocked ≡ outside (nearby y) e
+unfolding effectOf outside
+outside-step y e i d = simp d
 
-module _ (y : Near) (e : Event) where
-  pub outside-step : (i : ℕ) → e ≡ StepOf i → effectOf (aimedAt e) Blocked ≡ outside (nearby y) e
-  unfolding effectOf outside
-  outside-step i d = simp d
+-- what an act does to the tables
+does-is : {s : State Label} {k : ℕ} {e : Acts.Effect Label} {x : Effect} → Does s k e x → effectOf k x ≡ e
+does-is {s} d = ap (λ (t : Turn Label). t .effect) (d .does (freshJob sources 0 (label 0) (label 0)))
 
-  module _ (x : Effect) where
-    pub outside-write : (q : Label) (k v n : ℕ) (t : Stored) → e ≡ WriteBy q k v n → storedOf t ≡ brought sources q v n
-        → effectOf k x ≡ writing sources (nearby y) q q k (storedOf t) → effectOf (aimedAt e) x ≡ outside (nearby y) e
-    unfolding aimedAt outside
-    outside-write q k v n t d et ex = rw d (ex ∙ ap (writing sources (nearby y) q q k) et)
+makes-is : {s : State Label} {r : ℕ} {e : Acts.Effect Label} {x : Effect} → Makes s r e x → effectOf 0 x ≡ e
+makes-is {s} d = ap (λ (t : Turn Label). t .effect) (d .does (freshJob sources 0 (label 0) (label 0)))
 
-    pub outside-relabel : (q : Label) (k : ℕ) (o : Label) → e ≡ RelabelBy q k o
-        → effectOf k x ≡ relabelling sources (nearby y) q q k o → effectOf (aimedAt e) x ≡ outside (nearby y) e
-    unfolding aimedAt outside
-    outside-relabel q k o d ex = rw d ex
+module _ (y : Near) (e : Event) (x : Effect) where
+  pub outside-write : (q : Label) (k v n : ℕ) (t : Stored) → e ≡ WriteBy q k v n → storedOf t ≡ brought sources q v n
+      → Does (nearby y) k (writing sources (nearby y) q q k (storedOf t)) x → effectOf (aimedAt e) x ≡ outside (nearby y) e
+  unfolding aimedAt outside
+  outside-write q k v n t d et ex = rw d (does-is ex ∙ ap (writing sources (nearby y) q q k) et)
 
-    pub outside-new : (q : Label) (i v n : ℕ) (t : Stored) → e ≡ NewBy q i v n → storedOf t ≡ brought sources q v n
-        → effectOf 0 x ≡ making sources tableSize (nearby y) q q i (storedOf t) → effectOf (aimedAt e) x ≡ outside (nearby y) e
-    unfolding aimedAt outside
-    outside-new q i v n t d et ex = rw d (ex ∙ ap (making sources tableSize (nearby y) q q i) et)
+  pub outside-relabel : (q : Label) (k : ℕ) (o : Label) → e ≡ RelabelBy q k o
+      → Does (nearby y) k (relabelling sources (nearby y) q q k o) x → effectOf (aimedAt e) x ≡ outside (nearby y) e
+  unfolding aimedAt outside
+  outside-relabel q k o d ex = rw d (does-is ex)
 
-    pub outside-exec : (q : Label) (k : ℕ) → e ≡ ExecBy q k → effectOf k x ≡ executing sources tableSize (nearby y) q q k
-        → effectOf (aimedAt e) x ≡ outside (nearby y) e
-    unfolding aimedAt outside
-    outside-exec q k d ex = rw d ex
+  pub outside-new : (q : Label) (r i v n : ℕ) (t : Stored) → e ≡ NewBy q i v n → storedOf t ≡ brought sources q v n
+      → Makes (nearby y) r (making sources tableSize (nearby y) q q i (storedOf t)) x → effectOf (aimedAt e) x ≡ outside (nearby y) e
+  unfolding aimedAt outside
+  outside-new q r i v n t d et ex = rw d (makes-is ex ∙ ap (making sources tableSize (nearby y) q q i) et)
 
-    pub outside-start : (q : Label) (b : ℕ) → e ≡ StartBy q b → effectOf 0 x ≡ starting sources tableSize (nearby y) q q b
-        → effectOf (aimedAt e) x ≡ outside (nearby y) e
-    unfolding aimedAt outside
-    outside-start q b d ex = rw d ex
+  pub outside-exec : (q : Label) (k : ℕ) → e ≡ ExecBy q k → Does (nearby y) k (executing sources tableSize (nearby y) q q k) x
+      → effectOf (aimedAt e) x ≡ outside (nearby y) e
+  unfolding aimedAt outside
+  outside-exec q k d ex = rw d (does-is ex)
+
+  pub outside-start : (q : Label) (b : ℕ) → e ≡ StartBy q b → Does (nearby y) 0 (starting sources tableSize (nearby y) q q b) x
+      → effectOf (aimedAt e) x ≡ outside (nearby y) e
+  unfolding aimedAt outside
+  outside-start q b d ex = rw d (does-is ex)
 
 pub ruleset outsides = (outside-step, outside-write, outside-relabel, outside-new, outside-exec, outside-start)

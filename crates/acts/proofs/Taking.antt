@@ -1,211 +1,188 @@
--- Laws of the steps, for the code: the turn that a function hands back is the machine's.
---     gives, adds, news, reads, throughs, lowers, starting      one set for each kind of step
---     takes                                                     the dispatch
+-- Laws of the steps, for the code: the effect that a function hands back is the machine's turn.
+--     adds, reads, throughs, lowers      one set for each kind of step
+--     gives, dispatches                  put, name and code; the dispatch
 -- Assumes nothing.
 use mathlib.Core.Path.{_≡_, refl, sym, ap, _∙_}
 use mathlib.Core.Bool.{Bool, true, false}
 use Prim.Native.Nat.{ℕ, _<_, _≤_}
-use native.Mathlib.Omega.{arith}
-use lib.ListN.{getElem?, replicate, length-replicate}
+use mathlib.Core.List.{List}
+use lib.ListN.{getElem?}
 use Rattle.labels.specs.declared.Label.{Label}
 use Rattle.labels.specs.Labels.{lower, reaches}
-use Rattle.book.specs.declared.Value.{Value}
-use Rattle.book.specs.declared.Value.the-variants.{Plain, CellName, CodeName}
+use Rattle.book.specs.declared.Value.the-variants.{Plain}
 use Rattle.book.specs.declared.Step.{Step}
-use Rattle.book.specs.declared.Step.the-variants.{Put, Name, Code, Add, New, Read, Write, Relabel, Lower, Start, Exec}
+use Rattle.book.specs.declared.Step.the-variants.{Put, Name, Code, Add, New, Read, Write, Relabel, Start, Exec}
+use Rattle.book.specs.declared.Step.the-variants as Step
+use Rattle.book.specs.Book.{valueOf}
 use Rattle.book.specs.Control.{onSome}
 use Rattle.machine.specs.Control.{given}
 use Rattle.machine.specs.Histories.{sources}
-use Rattle.machine.specs.States.{Traced}
+use Rattle.machine.specs.States.{Traced, State}
 use Rattle.machine.specs.States as States
-use Rattle.machine.specs.Acts.{Effect, blocked, keep, acted, writing, relabelling, making, starting, executing}
-use Rattle.machine.specs.Steps.{sum, register, turn, stay, moved, gets, giving, adding, reading, lowering, through, turnOf}
-use Rattle.machine.specs.Steps as Steps
+use Rattle.machine.specs.Acts.{blocked, keep, acted, writing, relabelling, making, starting, executing}
+use Rattle.machine.specs.Acts as Acts
+use Rattle.machine.specs.Steps.{Turn, sum, register, turn, stay, moved, gets, adding, reading, lowering, through, turnOf}
 use Rattle.machine.specs.Records.{numberOf}
 use Rattle.machine.specs.Events.{tableSize}
 use Rattle.acts.specs.declared.Stored.{Stored}
-use Rattle.acts.specs.declared.Job.{Job}
 use Rattle.acts.specs.declared.Near.{Near}
-use Rattle.acts.specs.declared.Named.{Named}
-use Rattle.acts.specs.declared.Named.the-variants.{Of, No}
-use Rattle.acts.specs.declared.Effect.the-variants.{Blocked, Keep, Store, Create, Launch}
-use Rattle.acts.specs.declared.Effect as Effects
-use Rattle.acts.specs.declared.Turn.{Turn}
-use Rattle.acts.specs.Views.{storedOf, cellOf, jobOf, plainNumber, cellNamed, nearby, effectOf, turnTaken, numberIn, reachedBy}
-use Rattle.acts.proofs.Acting.{same-some, same-none, not-plain, is-plain, not-cell, is-cell}
+use Rattle.acts.specs.declared.Effect.{Effect}
+use Rattle.acts.specs.declared.Effect.the-variants.{Blocked, Give, Lower}
+use Rattle.acts.specs.Views.{valueIn, storedOf, cellOf, actor, registerIn, nearby, effectOf, jobAfter, turnTaken, kept, settled, numberIn, reachedBy, Does, Makes, Takes}
+use Rattle.acts.proofs.Acting.{same-some, same-none, not-plain, is-plain, not-cell, is-cell, number-is}
 
--- a blocked turn is blocked wherever it reaches
-still : (k : ℕ) (e : Effects.Effect) → effectOf 0 e ≡ blocked → effectOf k e ≡ blocked
-unfolding effectOf
-still k Blocked q = refl
-still k Keep q = let z : _≡_ {A = ℕ} 0 1 = cc in absurd (omega arith)
-still k (Store c) q = let z : _≡_ {A = ℕ} 0 1 = cc in absurd (omega arith)
-still k (Create c) q = let z : _≡_ {A = ℕ} 0 1 = cc in absurd (omega arith)
-still k (Launch b l h) q = let z : _≡_ {A = ℕ} 0 1 = cc in absurd (omega arith)
+-- what the code hands back for a step p, by what its turn is
+module _ {s : State Label} {p : Step} {l h : Label} {rs : List Stored} where
+  blocked-is : ((b i : ℕ) → turnOf sources tableSize s (actor l h rs b i) p ≡ stay sources (actor l h rs b i)) → Takes s p l h rs Blocked
+  unfolding effectOf jobAfter kept
+  blocked-is q = record { takes = λ b i. rw (q b i) refl }
 
-stays : (k : ℕ) (x : Turn) (j : States.Job Label) → turnTaken 0 x ≡ stay sources j → turnTaken k x ≡ stay sources j
-stays k x j e =
-    let a : jobOf (x .job) ≡ j = ap (λ (t : Steps.Turn Label). t .job) e in
-    let b : effectOf 0 (x .effect) ≡ blocked = ap (λ (t : Steps.Turn Label). t .effect) e in
-    rw (a, still k (x .effect) b) refl
+  give-is : {r : ℕ} {v : Stored}
+      → ((b i : ℕ) → turnOf sources tableSize s (actor l h rs b i) p ≡ turn sources (gets sources (actor l h rs b i) r (valueIn v) (v .source)) keep)
+      → Takes s p l h rs (Give r v)
+  unfolding effectOf jobAfter kept
+  give-is q = record { takes = λ b i. rw (q b i) refl }
 
-number-is : (v : Value) (q : Named) (k : ℕ) → q ≡ cellNamed v → q ≡ Of k → numberOf v ≡ k
-unfolding cellNamed
-number-is (Plain n) q k e o = let z : _≡_ {A = ℕ} 0 1 = cc in absurd (omega arith)
-number-is (CellName m) q k e o = cc
-number-is (CodeName b) q k e o = let z : _≡_ {A = ℕ} 0 1 = cc in absurd (omega arith)
+-- a step of a job at label l, with source h and registers rs; y is what it looks at
+module _ (l h : Label) (rs : List Stored) (y : Near) where
+  pub put-is : (r n : ℕ) → Takes (nearby y) (Put r n) l h rs (Give r (record { number = n; kind = 0; source = h }))
+  unfolding turnOf valueOf
+  put-is r n = give-is (λ b i. refl)
 
-pub stay-is : (j : Job) → turnTaken 0 (record { job = j; effect = Blocked }) ≡ stay sources (jobOf j)
-unfolding effectOf
-stay-is j = refl
+  pub name-is : (r n : ℕ) → Takes (nearby y) (Name r n) l h rs (Give r (record { number = n; kind = 1; source = h }))
+  unfolding turnOf valueOf
+  name-is r n = give-is (λ b i. refl)
 
-pub give-is : (j : Job) (r : ℕ) (v : Value) (g : Job) → jobOf g ≡ gets sources (jobOf j) r v (j .source)
-    → turnTaken 0 (record { job = g; effect = Keep }) ≡ giving sources (jobOf j) r v
-unfolding effectOf
-give-is j r v g e = rw e refl
+  pub code-is : (r n : ℕ) → Takes (nearby y) (Code r n) l h rs (Give r (record { number = n; kind = 2; source = h }))
+  unfolding turnOf valueOf
+  code-is r n = give-is (λ b i. refl)
 
--- y is what the step looks at
-module _ (j : Job) (y : Near) where
-  module _ (r a b : ℕ) (u v : Stored) (eu : storedOf u ≡ register sources (jobOf j) a) (ev : storedOf v ≡ register sources (jobOf j) b) where
-    adding-is : turnOf sources tableSize (nearby y) (jobOf j) (Add r a b) ≡ adding sources (jobOf j) r (storedOf u) (storedOf v)
+  module _ (r a b : ℕ) (u v : Stored) (eu : storedOf u ≡ registerIn h rs a) (ev : storedOf v ≡ registerIn h rs b) where
+    adding-is : (m i : ℕ) → turnOf sources tableSize (nearby y) (actor l h rs m i) (Add r a b)
+        ≡ adding sources (actor l h rs m i) r (storedOf u) (storedOf v)
     unfolding turnOf
-    adding-is = rw (eu, ev) refl
+    adding-is m i = rw (eu, ev) refl
 
-    module _ (p : Named) (ep : p ≡ plainNumber (u .value)) where
-      pub add-first : (x : Turn) → p ≡ No → turnTaken 0 x ≡ stay sources (jobOf j)
-          → turnTaken 0 x ≡ turnOf sources tableSize (nearby y) (jobOf j) (Add r a b)
+    pub add-first : (u .kind ≡ 0 → ⊥) → Takes (nearby y) (Add r a b) l h rs Blocked
+    unfolding adding
+    add-first n = blocked-is (λ m i. adding-is m i ∙ not-plain (stay sources (actor l h rs m i)) _ (u .number) (u .kind) n)
+
+    module _ (e : u .kind ≡ 0) where
+      pub add-second : (v .kind ≡ 0 → ⊥) → Takes (nearby y) (Add r a b) l h rs Blocked
       unfolding adding
-      add-first x n e = e ∙ sym (adding-is ∙ not-plain p (stay sources (jobOf j)) _ (u .value) ep n)
+      add-second n =
+          blocked-is
+          (λ m i. adding-is m i ∙ is-plain (stay sources (actor l h rs m i)) _ (u .number) (u .kind) e
+          ∙ not-plain (stay sources (actor l h rs m i)) _ (v .number) (v .kind) n)
 
-      module _ (m : ℕ) (ip : p ≡ Of m) (q : Named) (eq : q ≡ plainNumber (v .value)) where
-        pub add-second : (x : Turn) → q ≡ No → turnTaken 0 x ≡ stay sources (jobOf j)
-            → turnTaken 0 x ≡ turnOf sources tableSize (nearby y) (jobOf j) (Add r a b)
-        unfolding adding
-        add-second x n e =
-            e ∙ sym (adding-is ∙ is-plain p (stay sources (jobOf j)) _ (u .value) m ep ip ∙ not-plain q (stay sources (jobOf j)) _ (v .value) eq n)
+      pub add-both : (z : ℕ) (s t : Label) → v .kind ≡ 0 → z ≡ sum (u .number) (v .number) → s ≡ lower (u .source) (v .source) → t ≡ lower s h
+          → Takes (nearby y) (Add r a b) l h rs (Give r (record { number = z; kind = 0; source = t }))
+      unfolding adding valueOf
+      add-both z s t n ez es et =
+          give-is
+          (λ m i. adding-is m i ∙ is-plain (stay sources (actor l h rs m i)) _ (u .number) (u .kind) e
+          ∙ is-plain (stay sources (actor l h rs m i)) _ (v .number) (v .kind) n
+          ∙ rw (et, es, ez) refl)
 
-        pub add-both : (n z : ℕ) (s h : Label) (g : Job) → q ≡ Of n → z ≡ sum m n → s ≡ lower (u .source) (v .source) → h ≡ lower s (j .source)
-            → jobOf g ≡ gets sources (jobOf j) r (Plain z) h
-            → turnTaken 0 (record { job = g; effect = Keep }) ≡ turnOf sources tableSize (nearby y) (jobOf j) (Add r a b)
-        unfolding adding effectOf
-        add-both n z s h g iq ez es eh eg =
-            rw (eg, eh, es, ez) refl
-            ∙ sym (adding-is ∙ is-plain p (stay sources (jobOf j)) _ (u .value) m ep ip ∙ is-plain q (stay sources (jobOf j)) _ (v .value) n eq iq)
+  pub new-is : (r i a : ℕ) (v : Stored) (x : Effect) → storedOf v ≡ registerIn h rs a
+      → Makes (nearby y) r (making sources tableSize (nearby y) l h i (storedOf v)) x → Takes (nearby y) (New r i a) l h rs x
+  unfolding turnOf reachedBy
+  new-is r i a v x ev d = record { takes = λ b n. d .does (actor l h rs b n) ∙ rw ev refl }
 
-  pub new-is : (r i a : ℕ) (v : Stored) (g : Job) (e : Effects.Effect) → storedOf v ≡ register sources (jobOf j) a
-      → jobOf g ≡ gets sources (jobOf j) r (CellName (y .cells)) (j .source)
-      → effectOf 0 e ≡ making sources tableSize (nearby y) (j .label) (j .source) i (storedOf v)
-      → turnTaken 0 (record { job = g; effect = e }) ≡ turnOf sources tableSize (nearby y) (jobOf j) (New r i a)
-  unfolding turnOf
-  new-is r i a v g e ev eg ee = rw (eg, ee, ev, length-replicate (y .cells) (cellOf (y .cell))) refl
+  pub start-is : (b : ℕ) (x : Effect) → Does (nearby y) 0 (starting sources tableSize (nearby y) l h b) x → Takes (nearby y) (Start b) l h rs x
+  unfolding turnOf reachedBy
+  start-is b x d = record { takes = λ m i. d .does (actor l h rs m i) }
 
-  -- u is register w, and q the cell that it names
-  module _ (w : ℕ) (u : Stored) (eu : storedOf u ≡ register sources (jobOf j) w) (q : Named) (eq : q ≡ cellNamed (u .value)) where
-    named : q ≡ cellNamed (register sources (jobOf j) w .value)
-    named = eq ∙ ap (λ (t : Traced Label). cellNamed (t .value)) eu
+  module _ (q : Label) (b : Bool) (eb : b ≡ reaches l q) where
+    pub lower-not : b ≡ false → Takes (nearby y) (Step.Lower q) l h rs Blocked
+    unfolding turnOf lowering given
+    lower-not f = blocked-is (λ m i. simp (← eb, f))
+
+    pub lower-done : (s : Label) → b ≡ true → s ≡ lower h q → Takes (nearby y) (Step.Lower q) l h rs (Lower q s)
+    unfolding turnOf lowering given effectOf jobAfter kept
+    lower-done s f es = record { takes = λ m i. simp (← eb, f, es) }
+
+  -- u is register w
+  module _ (w : ℕ) (u : Stored) (eu : storedOf u ≡ registerIn h rs w) where
+    value-is : valueIn u ≡ registerIn h rs w .value
+    value-is = ap (λ (t : Traced Label). t .value) eu
 
     module _ (r : ℕ) where
-      pub read-no : (x : Turn) → q ≡ No → turnTaken 0 x ≡ stay sources (jobOf j)
-          → turnTaken (numberIn (jobOf j) w) x ≡ turnOf sources tableSize (nearby y) (jobOf j) (Read r w)
+      abbrev found : ℕ → ℕ → States.Cell Label → Turn Label
+      found b i c = turn sources (gets sources (actor l h rs b i) r (c .content .value) (acted sources h (c .content) .history)) keep
+
+      pub read-no : (u .kind ≡ 1 → ⊥) → Takes (nearby y) (Read r w) l h rs Blocked
       unfolding turnOf reading
-      read-no x n e =
-          stays (numberIn (jobOf j) w) x (jobOf j) e ∙ sym (not-cell q (stay sources (jobOf j)) _ (register sources (jobOf j) w .value) named n)
+      read-no n = blocked-is (λ b i. rw (← value-is) (not-cell (stay sources (actor l h rs b i)) _ (u .number) (u .kind) n))
 
-      module _ (k : ℕ) (iq : q ≡ Of k) where
-        found : turnOf sources tableSize (nearby y) (jobOf j) (Read r w)
-            ≡ onSome (getElem? (replicate (y .cells) (cellOf (y .cell))) k) (stay sources (jobOf j))
-            (λ c. turn sources (gets sources (jobOf j) r (c .content .value) (acted sources (j .source) (c .content) .history)) keep)
-        unfolding turnOf reading
-        found = is-cell q (stay sources (jobOf j)) _ (register sources (jobOf j) w .value) k named iq
+      module _ (e : u .kind ≡ 1) where
+        pub read-none : y .cells ≤ u .number → Takes (nearby y) (Read r w) l h rs Blocked
+        unfolding turnOf reading onSome
+        read-none n =
+            blocked-is
+            (λ b i. rw (← value-is)
+            (is-cell (stay sources (actor l h rs b i)) _ (u .number) (u .kind) e ∙ simp (same-none (cellOf (y .cell)) (y .cells) (u .number) n)))
 
-        pub read-none : (x : Turn) → y .cells ≤ k → turnTaken 0 x ≡ stay sources (jobOf j)
-            → turnTaken (numberIn (jobOf j) w) x ≡ turnOf sources tableSize (nearby y) (jobOf j) (Read r w)
-        unfolding onSome
-        read-none x n e =
-            stays (numberIn (jobOf j) w) x (jobOf j) e ∙ sym (found ∙ simp (same-none (cellOf (y .cell)) (y .cells) k n))
-
-        pub read-done : (t : Stored) (g : Job) → k < y .cells → storedOf t ≡ acted sources (j .source) (storedOf (y .cell .content))
-            → jobOf g ≡ gets sources (jobOf j) r (t .value) (t .source)
-            → turnTaken (numberIn (jobOf j) w) (record { job = g; effect = Keep }) ≡ turnOf sources tableSize (nearby y) (jobOf j) (Read r w)
-        unfolding onSome effectOf
-        read-done t g n et eg =
-            let a : t .value ≡ y .cell .content .value = ap (λ (t : Traced Label). t .value) et in
-            let b : t .source ≡ lower (y .cell .content .source) (j .source) = ap (λ (t : Traced Label). t .history) et in
-            let c : jobOf g ≡ gets sources (jobOf j) r (y .cell .content .value) (lower (y .cell .content .source) (j .source)) = eg ∙ rw (a, b) refl in
-            sym (found ∙ simp (same-some (cellOf (y .cell)) (y .cells) k n, c))
+        pub read-done : (t : Stored) → u .number < y .cells → storedOf t ≡ acted sources h (storedOf (y .cell .content))
+            → Takes (nearby y) (Read r w) l h rs (Give r t)
+        unfolding turnOf reading onSome
+        read-done t n et =
+            give-is
+            (λ b i.
+            let c : onSome (getElem? (nearby y .cells) (u .number)) (stay sources (actor l h rs b i)) (found b i)
+            ≡ found b i (cellOf (y .cell)) = simp (same-some (cellOf (y .cell)) (y .cells) (u .number) n) in
+            rw (← value-is)
+            (is-cell (stay sources (actor l h rs b i)) _ (u .number) (u .kind) e
+            ∙ c
+            ∙ ap (λ (t : Traced Label). turn sources (gets sources (actor l h rs b i) r (t .value) (t .history)) keep) (sym et)))
 
     -- an act on the cell that w names
-    module _ (act : ℕ → Effect Label) where
-      none-named : (x : Turn) → q ≡ No → turnTaken 0 x ≡ stay sources (jobOf j) → turnTaken (numberIn (jobOf j) w) x ≡ through sources (jobOf j) w act
-      none-named x n e =
-          stays (numberIn (jobOf j) w) x (jobOf j) e ∙ sym (not-cell q (stay sources (jobOf j)) _ (register sources (jobOf j) w .value) named n)
+    module _ (b i : ℕ) (act : ℕ → Acts.Effect Label) where
+      no-cell : (u .kind ≡ 1 → ⊥) → through sources (actor l h rs b i) w act ≡ stay sources (actor l h rs b i)
+      no-cell n = rw (← value-is) (not-cell (stay sources (actor l h rs b i)) _ (u .number) (u .kind) n)
 
-      one-named : (k : ℕ) (g : Job) (e : Effects.Effect) → q ≡ Of k → jobOf g ≡ moved sources (jobOf j) → effectOf k e ≡ act k
-          → turnTaken (numberIn (jobOf j) w) (record { job = g; effect = e }) ≡ through sources (jobOf j) w act
-      one-named k g e n eg ee =
-          let i : numberIn (jobOf j) w ≡ k = number-is (register sources (jobOf j) w .value) q k named n in
-          rw (i, eg, ee) refl ∙ sym (is-cell q (stay sources (jobOf j)) _ (register sources (jobOf j) w .value) k named n)
+      one-cell : (x : Effect) → u .kind ≡ 1 → Does (nearby y) (u .number) (act (u .number)) x
+          → turnTaken (nearby y) (actor l h rs b i) (numberIn (actor l h rs b i) w) x
+          ≡ settled (actor l h rs b i) (through sources (actor l h rs b i) w act)
+      one-cell x e d =
+          let c : through sources (actor l h rs b i) w act ≡ turn sources (moved sources (actor l h rs b i)) (act (u .number))
+          = rw (← value-is) (is-cell (stay sources (actor l h rs b i)) _ (u .number) (u .kind) e) in
+          let k : numberIn (actor l h rs b i) w ≡ u .number = rw (← value-is) (number-is (u .kind) (u .number)) in
+          ap (λ k. turnTaken (nearby y) (actor l h rs b i) k x) k ∙ d .does (actor l h rs b i) ∙ ap (settled (actor l h rs b i)) (sym c)
 
     module _ (a : ℕ) where
-      pub write-no : (x : Turn) → q ≡ No → turnTaken 0 x ≡ stay sources (jobOf j)
-          → turnTaken (numberIn (jobOf j) w) x ≡ turnOf sources tableSize (nearby y) (jobOf j) (Write w a)
+      pub write-no : (u .kind ≡ 1 → ⊥) → Takes (nearby y) (Write w a) l h rs Blocked
       unfolding turnOf
-      write-no x n e = none-named (λ k. writing sources (nearby y) (j .label) (j .source) k (register sources (jobOf j) a)) x n e
+      write-no n = blocked-is (λ b i. no-cell b i (λ k. writing sources (nearby y) l h k (registerIn h rs a)) n)
 
-      pub write-cell : (k : ℕ) (g : Job) (e : Effects.Effect) (v : Stored) → q ≡ Of k → storedOf v ≡ register sources (jobOf j) a
-          → jobOf g ≡ moved sources (jobOf j) → effectOf k e ≡ writing sources (nearby y) (j .label) (j .source) k (storedOf v)
-          → turnTaken (numberIn (jobOf j) w) (record { job = g; effect = e }) ≡ turnOf sources tableSize (nearby y) (jobOf j) (Write w a)
-      unfolding turnOf
-      write-cell k g e v n ev eg ee =
-          one-named (λ k. writing sources (nearby y) (j .label) (j .source) k (register sources (jobOf j) a)) k g e n eg
-          (ee ∙ ap (writing sources (nearby y) (j .label) (j .source) k) ev)
+      pub write-cell : (x : Effect) (v : Stored) → u .kind ≡ 1 → storedOf v ≡ registerIn h rs a
+          → Does (nearby y) (u .number) (writing sources (nearby y) l h (u .number) (storedOf v)) x → Takes (nearby y) (Write w a) l h rs x
+      unfolding turnOf reachedBy
+      write-cell x v e ev d =
+          record { takes = λ b i. one-cell b i (λ k. writing sources (nearby y) l h k (registerIn h rs a)) x e (rw ev at d) }
 
     module _ (o : Label) where
-      pub relabel-no : (x : Turn) → q ≡ No → turnTaken 0 x ≡ stay sources (jobOf j)
-          → turnTaken (numberIn (jobOf j) w) x ≡ turnOf sources tableSize (nearby y) (jobOf j) (Relabel w o)
+      pub relabel-no : (u .kind ≡ 1 → ⊥) → Takes (nearby y) (Relabel w o) l h rs Blocked
       unfolding turnOf
-      relabel-no x n e = none-named (λ k. relabelling sources (nearby y) (j .label) (j .source) k o) x n e
+      relabel-no n = blocked-is (λ b i. no-cell b i (λ k. relabelling sources (nearby y) l h k o) n)
 
-      pub relabel-cell : (k : ℕ) (g : Job) (e : Effects.Effect) → q ≡ Of k → jobOf g ≡ moved sources (jobOf j)
-          → effectOf k e ≡ relabelling sources (nearby y) (j .label) (j .source) k o
-          → turnTaken (numberIn (jobOf j) w) (record { job = g; effect = e }) ≡ turnOf sources tableSize (nearby y) (jobOf j) (Relabel w o)
-      unfolding turnOf
-      relabel-cell k g e n eg ee = one-named (λ k. relabelling sources (nearby y) (j .label) (j .source) k o) k g e n eg ee
+      pub relabel-cell : (x : Effect) → u .kind ≡ 1 → Does (nearby y) (u .number) (relabelling sources (nearby y) l h (u .number) o) x
+          → Takes (nearby y) (Relabel w o) l h rs x
+      unfolding turnOf reachedBy
+      relabel-cell x e d = record { takes = λ b i. one-cell b i (λ k. relabelling sources (nearby y) l h k o) x e d }
 
-    pub exec-no : (x : Turn) → q ≡ No → turnTaken 0 x ≡ stay sources (jobOf j)
-        → turnTaken (numberIn (jobOf j) w) x ≡ turnOf sources tableSize (nearby y) (jobOf j) (Exec w)
+    pub exec-no : (u .kind ≡ 1 → ⊥) → Takes (nearby y) (Exec w) l h rs Blocked
     unfolding turnOf
-    exec-no x n e = none-named (executing sources tableSize (nearby y) (j .label) (j .source)) x n e
+    exec-no n = blocked-is (λ b i. no-cell b i (executing sources tableSize (nearby y) l h) n)
 
-    pub exec-cell : (k : ℕ) (g : Job) (e : Effects.Effect) → q ≡ Of k → jobOf g ≡ moved sources (jobOf j)
-        → effectOf k e ≡ executing sources tableSize (nearby y) (j .label) (j .source) k
-        → turnTaken (numberIn (jobOf j) w) (record { job = g; effect = e }) ≡ turnOf sources tableSize (nearby y) (jobOf j) (Exec w)
-    unfolding turnOf
-    exec-cell k g e n eg ee = one-named (executing sources tableSize (nearby y) (j .label) (j .source)) k g e n eg ee
+    pub exec-cell : (x : Effect) → u .kind ≡ 1 → Does (nearby y) (u .number) (executing sources tableSize (nearby y) l h (u .number)) x
+        → Takes (nearby y) (Exec w) l h rs x
+    unfolding turnOf reachedBy
+    exec-cell x e d = record { takes = λ b i. one-cell b i (executing sources tableSize (nearby y) l h) x e d }
 
-  module _ (q : Label) (b : Bool) (eb : b ≡ reaches (j .label) q) where
-    pub lower-not : (x : Turn) → b ≡ false → turnTaken 0 x ≡ stay sources (jobOf j)
-        → turnTaken 0 x ≡ turnOf sources tableSize (nearby y) (jobOf j) (Lower q)
-    unfolding turnOf lowering given
-    lower-not x f e = e ∙ simp (← eb, f)
-
-    pub lower-done : (g : Job) (s : Label) → b ≡ true → jobOf g ≡ moved sources (jobOf j) → s ≡ lower (j .source) q
-        → turnTaken 0
-        (record {
-          job = record { block = g .block; position = g .position; at = g .at; label = q; source = s; registers = g .registers };
-          effect = Keep;
-        })
-        ≡ turnOf sources tableSize (nearby y) (jobOf j) (Lower q)
-    unfolding turnOf lowering given effectOf
-    lower-done g s f eg es =
-        ap (λ (g : States.Job Label). turn sources (record { block = g .block; position = g .position; label = q; registers = g .registers; history = s }) keep) eg
-        ∙ simp (← eb, f, es)
-
-  pub start-is : (b : ℕ) (g : Job) (e : Effects.Effect) → jobOf g ≡ moved sources (jobOf j)
-      → effectOf 0 e ≡ starting sources tableSize (nearby y) (j .label) (j .source) b
-      → turnTaken 0 (record { job = g; effect = e }) ≡ turnOf sources tableSize (nearby y) (jobOf j) (Start b)
-  unfolding turnOf
-  start-is b g e eg ee = rw (eg, ee) refl
+-- the code told the step apart
+pub as-told : (s : State Label) (p q : Step) (l h : Label) (rs : List Stored) (x : Effect) → p ≡ q → Takes s q l h rs x → Takes s p l h rs x
+as-told s p q l h rs x e t = rw e t
 
 pub ruleset adds = (add-first, add-second, add-both)
 
@@ -215,62 +192,4 @@ pub ruleset throughs = (write-no, write-cell, relabel-no, relabel-cell, exec-no,
 
 pub ruleset lowers = (lower-not, lower-done)
 
--- x is what the code hands back for a step p
-module _ (j : Job) (y : Near) (p : Step) (x : Turn) where
-  pub take-put : (r n : ℕ) → p ≡ Put r n → turnTaken 0 x ≡ giving sources (jobOf j) r (Plain n)
-      → turnTaken (reachedBy p (jobOf j)) x ≡ turnOf sources tableSize (nearby y) (jobOf j) p
-  unfolding reachedBy turnOf
-  take-put r n d e = rw d e
-
-  pub take-name : (r k : ℕ) → p ≡ Name r k → turnTaken 0 x ≡ giving sources (jobOf j) r (CellName k)
-      → turnTaken (reachedBy p (jobOf j)) x ≡ turnOf sources tableSize (nearby y) (jobOf j) p
-  unfolding reachedBy turnOf
-  take-name r k d e = rw d e
-
-  pub take-code : (r b : ℕ) → p ≡ Code r b → turnTaken 0 x ≡ giving sources (jobOf j) r (CodeName b)
-      → turnTaken (reachedBy p (jobOf j)) x ≡ turnOf sources tableSize (nearby y) (jobOf j) p
-  unfolding reachedBy turnOf
-  take-code r b d e = rw d e
-
-  pub take-add : (r a b : ℕ) → p ≡ Add r a b → turnTaken 0 x ≡ turnOf sources tableSize (nearby y) (jobOf j) (Add r a b)
-      → turnTaken (reachedBy p (jobOf j)) x ≡ turnOf sources tableSize (nearby y) (jobOf j) p
-  unfolding reachedBy
-  take-add r a b d e = rw d e
-
-  pub take-new : (r i a : ℕ) → p ≡ New r i a → turnTaken 0 x ≡ turnOf sources tableSize (nearby y) (jobOf j) (New r i a)
-      → turnTaken (reachedBy p (jobOf j)) x ≡ turnOf sources tableSize (nearby y) (jobOf j) p
-  unfolding reachedBy
-  take-new r i a d e = rw d e
-
-  pub take-read : (r w : ℕ) → p ≡ Read r w → turnTaken (numberIn (jobOf j) w) x ≡ turnOf sources tableSize (nearby y) (jobOf j) (Read r w)
-      → turnTaken (reachedBy p (jobOf j)) x ≡ turnOf sources tableSize (nearby y) (jobOf j) p
-  unfolding reachedBy
-  take-read r w d e = rw d e
-
-  pub take-write : (w a : ℕ) → p ≡ Write w a → turnTaken (numberIn (jobOf j) w) x ≡ turnOf sources tableSize (nearby y) (jobOf j) (Write w a)
-      → turnTaken (reachedBy p (jobOf j)) x ≡ turnOf sources tableSize (nearby y) (jobOf j) p
-  unfolding reachedBy
-  take-write w a d e = rw d e
-
-  pub take-relabel : (w : ℕ) (o : Label) → p ≡ Relabel w o → turnTaken (numberIn (jobOf j) w) x ≡ turnOf sources tableSize (nearby y) (jobOf j) (Relabel w o)
-      → turnTaken (reachedBy p (jobOf j)) x ≡ turnOf sources tableSize (nearby y) (jobOf j) p
-  unfolding reachedBy
-  take-relabel w o d e = rw d e
-
-  pub take-lower : (q : Label) → p ≡ Lower q → turnTaken 0 x ≡ turnOf sources tableSize (nearby y) (jobOf j) (Lower q)
-      → turnTaken (reachedBy p (jobOf j)) x ≡ turnOf sources tableSize (nearby y) (jobOf j) p
-  unfolding reachedBy
-  take-lower q d e = rw d e
-
-  pub take-start : (b : ℕ) → p ≡ Start b → turnTaken 0 x ≡ turnOf sources tableSize (nearby y) (jobOf j) (Start b)
-      → turnTaken (reachedBy p (jobOf j)) x ≡ turnOf sources tableSize (nearby y) (jobOf j) p
-  unfolding reachedBy
-  take-start b d e = rw d e
-
-  pub take-exec : (w : ℕ) → p ≡ Exec w → turnTaken (numberIn (jobOf j) w) x ≡ turnOf sources tableSize (nearby y) (jobOf j) (Exec w)
-      → turnTaken (reachedBy p (jobOf j)) x ≡ turnOf sources tableSize (nearby y) (jobOf j) p
-  unfolding reachedBy
-  take-exec w d e = rw d e
-
-pub ruleset takes =
-    (take-put, take-name, take-code, take-add, take-new, take-read, take-write, take-relabel, take-lower, take-start, take-exec)
+pub ruleset dispatches = (as-told, put-is, name-is, code-is, start-is)

@@ -1,97 +1,146 @@
 -- The records of the code, as the machine's over sources.
---     storedOf, cellOf, jobOf     a value, a cell, a job
---     plainNumber, ..             the number of a value, by its kind
---     nearby                      a state in which every cell is the one that an act reaches
---     effectOf, turnTaken            what an act does, where it reaches cell k; a turn
---     reachedBy                   the cell that a step reaches
+--     valueIn, storedOf, cellOf, jobOf     a value, a cell, a job
+--     actor, registerIn                    a job by what a step looks at; a register of it
+--     nearby                               a state in which every cell is the one that an act reaches
+--     effectOf, jobAfter, turnTaken        what an effect is to the tables, where cell k is reached; to the job that acts; both
+--     answerOf                             the answer to an event of this effect
+--     settled                              a turn, where the job waits if it is blocked
+--     Does, Makes, Takes                   contracts: an act on a cell or of start; new; a step
+--     reachedBy, reachedIn, clamped        the cell that a step reaches; an entry of a table
 -- Assumes nothing.
-use Prim.Native.Nat.{ℕ}
-use mathlib.Core.List.{map}
-use lib.ListN.{replicate}
+use Prim.Native.Nat.{ℕ, suc}
+use mathlib.Core.Path.{_≡_}
+use mathlib.Core.List.{List, map}
+use lib.Dec.{ltb}
+use lib.ListN.{length, getD, replicate}
 use Rattle.labels.specs.declared.Label.{Label}
 use Rattle.labels.specs.Labels.{label}
 use Rattle.book.specs.declared.Value.{Value}
-use Rattle.book.specs.declared.Value.the-variants.{Plain, CellName, CodeName}
+use Rattle.book.specs.declared.Value.the-variants.{CellName}
 use Rattle.book.specs.declared.Step.{Step}
-use Rattle.book.specs.declared.Step.the-variants.{Put, Name, Code, Add, New, Read, Write, Relabel, Lower, Start, Exec}
+use Rattle.book.specs.declared.Step.the-variants as Step
+use Rattle.book.specs.Control.{if_then_else_}
+use Rattle.book.specs.Book.{valueOf}
 use Rattle.machine.specs.Histories.{sources}
 use Rattle.machine.specs.States.{Traced, State}
 use Rattle.machine.specs.States as States
-use Rattle.machine.specs.Acts.{blocked, keep, store, create, launch, freshJob}
+use Rattle.machine.specs.Acts.{blocked, keep, store, create, launch, zeroWith, freshJob}
 use Rattle.machine.specs.Acts as Acts
-use Rattle.machine.specs.Steps.{register}
+use Rattle.machine.specs.Steps.{register, turn, moved, gets, turnOf}
 use Rattle.machine.specs.Steps as Steps
 use Rattle.machine.specs.Records.{numberOf}
+use Rattle.machine.specs.Events.{done, stopped, tableSize}
 use Rattle.acts.specs.declared.Stored.{Stored}
 use Rattle.acts.specs.declared.Cell.{Cell}
 use Rattle.acts.specs.declared.Job.{Job}
-use Rattle.acts.specs.declared.Named.{Named}
-use Rattle.acts.specs.declared.Named.the-variants.{Of, No}
 use Rattle.acts.specs.declared.Near.{Near}
 use Rattle.acts.specs.declared.Effect.{Effect}
-use Rattle.acts.specs.declared.Effect.the-variants.{Blocked, Keep, Store, Create, Launch}
-use Rattle.acts.specs.declared.Turn.{Turn}
+use Rattle.acts.specs.declared.Effect.the-variants.{Blocked, Give, Lower, Store, Create, Launch}
 
--- "A stored value is kind, number and source"
+-- "A stored value is kind, number and source": any kind is read, as in the book
+abbrev pub valueIn : Stored → Value
+valueIn v = valueOf (v .kind) (v .number)
+
 abbrev pub storedOf : Stored → Traced Label
-storedOf v = record { value = v .value; history = v .source }
+storedOf v = record { value = valueIn v; history = v .source }
 
 abbrev pub cellOf : Cell → States.Cell Label
 cellOf c = record { shape = c .shape; label = c .label; content = storedOf (c .content) }
 
+-- a job of this block and position, by what a step looks at
+abbrev pub actor : Label → Label → List Stored → ℕ → ℕ → States.Job Label
+actor l h rs b i = record { block = b; position = i; label = l; registers = map storedOf rs; history = h }
+
 abbrev pub jobOf : Job → States.Job Label
-jobOf j =
-    record {
-      block = j .block;
-      position = j .position;
-      label = j .label;
-      registers = map storedOf (j .registers);
-      history = j .source;
-    }
+jobOf j = actor (j .label) (j .source) (j .registers) (j .block) (j .position)
 
--- the number of a value that is plain, a cell, a block
-unfoldable pub plainNumber : Value → Named
-plainNumber (Plain n) = Of n
-plainNumber (CellName k) = No
-plainNumber (CodeName b) = No
-
-unfoldable pub cellNamed : Value → Named
-cellNamed (Plain n) = No
-cellNamed (CellName k) = Of k
-cellNamed (CodeName b) = No
-
-unfoldable pub blockNamed : Value → Named
-blockNamed (Plain n) = No
-blockNamed (CellName k) = No
-blockNamed (CodeName b) = Of b
+abbrev pub registerIn : Label → List Stored → ℕ → Traced Label
+registerIn h rs r = getD (map storedOf rs) r (zeroWith sources h)
 
 -- an act looks at one cell, and at how many cells and jobs there are
 abbrev pub nearby : Near → State Label
 nearby x = record { cells = replicate (x .cells) (cellOf (x .cell)); jobs = replicate (x .jobs) (freshJob sources 0 (label 0) (label 0)) }
 
+-- what it does to the tables
 unfoldable pub effectOf : ℕ → Effect → Acts.Effect Label
 effectOf k Blocked = blocked
-effectOf k Keep = keep
+effectOf k (Give r v) = keep
+effectOf k (Lower q h) = keep
 effectOf k (Store c) = store k (cellOf c)
-effectOf k (Create c) = create (cellOf c)
+effectOf k (Create r c) = create (cellOf c)
 effectOf k (Launch b l h) = launch (freshJob sources b l h)
 
-abbrev pub turnTaken : ℕ → Turn → Steps.Turn Label
-turnTaken k t = record { job = jobOf (t .job); effect = effectOf k (t .effect) }
+-- the answer to it
+unfoldable pub answerOf : Effect → ℕ
+answerOf Blocked = stopped
+answerOf (Give r v) = done
+answerOf (Lower q h) = done
+answerOf (Store c) = done
+answerOf (Create r c) = done
+answerOf (Launch b l h) = done
+
+-- the step is done, and the job has this label and history
+abbrev pub lowered : States.Job Label → Label → Label → States.Job Label
+lowered j q h = record { block = j .block; position = suc (j .position); label = q; registers = j .registers; history = h }
+
+-- what it does to the job that acts, in a state s
+unfoldable pub jobAfter : State Label → States.Job Label → Effect → States.Job Label
+jobAfter s j Blocked = j
+jobAfter s j (Give r v) = gets sources j r (valueIn v) (v .source)
+jobAfter s j (Lower q h) = lowered j q h
+jobAfter s j (Store c) = moved sources j
+jobAfter s j (Create r c) = gets sources j r (CellName (length (s .cells))) (j .history)
+jobAfter s j (Launch b l h) = moved sources j
+
+abbrev pub turnTaken : State Label → States.Job Label → ℕ → Effect → Steps.Turn Label
+turnTaken s j k x = record { job = jobAfter s j x; effect = effectOf k x }
+
+-- "\"Blocked\" changes nothing": j is the job before, g the job after
+unfoldable pub kept : States.Job Label → States.Job Label → Acts.Effect Label → States.Job Label
+kept j g blocked = j
+kept j g keep = g
+kept j g (store k c) = g
+kept j g (create c) = g
+kept j g (launch i) = g
+
+abbrev pub settled : States.Job Label → Steps.Turn Label → Steps.Turn Label
+settled j t = record { job = kept j (t .job) (t .effect); effect = t .effect }
 
 -- the number in register w
 abbrev pub numberIn : States.Job Label → ℕ → ℕ
 numberIn j w = numberOf (register sources j w .value)
 
 unfoldable pub reachedBy : Step → States.Job Label → ℕ
-reachedBy (Put r n) j = 0
-reachedBy (Name r k) j = 0
-reachedBy (Code r b) j = 0
-reachedBy (Add r a b) j = 0
-reachedBy (New r i a) j = 0
-reachedBy (Read r w) j = numberIn j w
-reachedBy (Write w a) j = numberIn j w
-reachedBy (Relabel w o) j = numberIn j w
-reachedBy (Lower q) j = 0
-reachedBy (Start b) j = 0
-reachedBy (Exec w) j = numberIn j w
+reachedBy (Step.Put r n) j = 0
+reachedBy (Step.Name r k) j = 0
+reachedBy (Step.Code r b) j = 0
+reachedBy (Step.Add r a b) j = 0
+reachedBy (Step.New r i a) j = 0
+reachedBy (Step.Read r w) j = numberIn j w
+reachedBy (Step.Write w a) j = numberIn j w
+reachedBy (Step.Relabel w o) j = numberIn j w
+reachedBy (Step.Lower q) j = 0
+reachedBy (Step.Start b) j = 0
+reachedBy (Step.Exec w) j = numberIn j w
+
+-- which cell it is does not depend on the job's label, block and position
+abbrev pub reachedIn : Step → Label → List Stored → ℕ
+reachedIn p h rs = reachedBy p (actor (label 0) h rs 0 0)
+
+-- a number in a table of 64
+abbrev pub clamped : ℕ → ℕ
+clamped k = if ltb k 64 then k else 0
+
+-- x is the effect e of an act in the state s, where cell k is reached, whichever job acts
+pub record Does (s : State Label) (k : ℕ) (e : Acts.Effect Label) (x : Effect) : Type 0 where
+  pub does : (j : States.Job Label) → turnTaken s j k x ≡ settled j (turn sources (moved sources j) e)
+
+-- the same of new, which names the cell in register r
+pub record Makes (s : State Label) (r : ℕ) (e : Acts.Effect Label) (x : Effect) : Type 0 where
+  pub does : (j : States.Job Label) → turnTaken s j 0 x ≡ settled j (turn sources (gets sources j r (CellName (length (s .cells))) (j .history)) e)
+
+-- x is what step p does in the state s, at the label l, with the history h and these registers, whatever the job's block b and position i
+pub record Takes (s : State Label) (p : Step) (l h : Label) (rs : List Stored) (x : Effect) : Type 0 where
+  pub takes : (b i : ℕ)
+      → turnTaken s (actor l h rs b i) (reachedBy p (actor l h rs b i)) x
+      ≡ settled (actor l h rs b i) (turnOf sources tableSize s (actor l h rs b i) p)

@@ -2,7 +2,6 @@
 use crate::Cell;
 use crate::Effect;
 use crate::Job;
-use crate::Named;
 use crate::Near;
 use crate::Stored;
 use crate::registers;
@@ -11,10 +10,10 @@ ghost use mathlib.Core.Path.{_≡_};
 ghost use Rattle.machine.specs.Histories.{sources};
 ghost use Rattle.machine.specs.Acts.{writing, relabelling, making, starting, executing};
 ghost use Rattle.machine.specs.Events.{tableSize};
-ghost use Rattle.acts.specs.Views.{storedOf, nearby, effectOf};
+ghost use Rattle.acts.specs.Views.{storedOf, nearby, answerOf, Does, Makes};
 
 pub fn write_cell(l: Label, h: Label, near: Near, k: u32, v: Stored) -> Effect
-    ensures { λ x. ⌜ effectOf k x ≡ writing sources (nearby near) l h k (storedOf v) ⌝ }
+    ensures { λ x. ⌜ Does (nearby near) k (writing sources (nearby near) l h k (storedOf v)) x ⌝ }
 {
     let cell = near.cell;
     let label = cell.label;
@@ -22,9 +21,9 @@ pub fn write_cell(l: Label, h: Label, near: Near, k: u32, v: Stored) -> Effect
         if l.reaches(label) {
             let content = registers::acted(h, v);
             return Effect::Store(Cell {
+                content: content,
                 shape: cell.shape,
                 label: label,
-                content: content,
             });
         }
         return Effect::Blocked;
@@ -33,7 +32,7 @@ pub fn write_cell(l: Label, h: Label, near: Near, k: u32, v: Stored) -> Effect
 }
 
 pub fn relabel_cell(l: Label, h: Label, near: Near, k: u32, o: Label) -> Effect
-    ensures { λ x. ⌜ effectOf k x ≡ relabelling sources (nearby near) l h k o ⌝ }
+    ensures { λ x. ⌜ Does (nearby near) k (relabelling sources (nearby near) l h k o) x ⌝ }
 {
     let cell = near.cell;
     let label = cell.label;
@@ -42,9 +41,9 @@ pub fn relabel_cell(l: Label, h: Label, near: Near, k: u32, o: Label) -> Effect
             if l.reaches(o) {
                 let content = cell.content;
                 return Effect::Store(Cell {
+                    content: content,
                     shape: cell.shape,
                     label: o,
-                    content: content,
                 });
             }
             return Effect::Blocked;
@@ -54,22 +53,26 @@ pub fn relabel_cell(l: Label, h: Label, near: Near, k: u32, o: Label) -> Effect
     Effect::Blocked
 }
 
-pub fn make_cell(l: Label, h: Label, near: Near, i: u8, v: Stored) -> Effect
-    ensures { λ x. ⌜ effectOf 0 x ≡ making sources tableSize (nearby near) l h i (storedOf v) ⌝ }
+// Register r of the job that acts gets the cell's name; where an outsider acts r says nothing.
+pub fn make_cell(l: Label, h: Label, near: Near, r: u8, i: u8, v: Stored) -> Effect
+    ensures { λ x. ⌜ Makes (nearby near) r (making sources tableSize (nearby near) l h i (storedOf v)) x ⌝ }
 {
     if near.cells < Job::TABLE_SIZE {
         let content = registers::acted(h, v);
-        return Effect::Create(Cell {
-            shape: i,
-            label: l,
-            content: content,
-        });
+        return Effect::Create(
+            r,
+            Cell {
+                content: content,
+                shape: i,
+                label: l,
+            },
+        );
     }
     Effect::Blocked
 }
 
 pub fn start_job(l: Label, h: Label, near: Near, b: u32) -> Effect
-    ensures { λ x. ⌜ effectOf 0 x ≡ starting sources tableSize (nearby near) l h b ⌝ }
+    ensures { λ x. ⌜ Does (nearby near) 0 (starting sources tableSize (nearby near) l h b) x ⌝ }
 {
     if near.jobs < Job::TABLE_SIZE {
         return Effect::Launch(b, l, h);
@@ -78,22 +81,35 @@ pub fn start_job(l: Label, h: Label, near: Near, b: u32) -> Effect
 }
 
 pub fn exec_cell(l: Label, h: Label, near: Near, k: u32) -> Effect
-    ensures { λ x. ⌜ effectOf k x ≡ executing sources tableSize (nearby near) l h k ⌝ }
+    ensures { λ x. ⌜ Does (nearby near) k (executing sources tableSize (nearby near) l h k) x ⌝ }
 {
     let cell = near.cell;
     if near.cells <= k as usize {
         return Effect::Blocked;
     }
     let content = cell.content;
-    let value = content.value;
-    let Named::Of(b) = registers::block_named(value) else {
+    if content.kind < 2 {
         return Effect::Blocked;
-    };
+    }
     if Job::TABLE_SIZE <= near.jobs {
         return Effect::Blocked;
     }
     let low = l.lower_of(cell.label);
     let both = h.lower_of(content.source);
     let source = both.lower_of(low);
-    Effect::Launch(b, low, source)
+    Effect::Launch(content.number, low, source)
+}
+
+// The answer to an event of this effect.
+pub fn answer_of(x: Effect) -> u8
+    ensures { λ r. ⌜ r ≡ answerOf x ⌝ }
+{
+    match x {
+        Effect::Blocked => 1,
+        Effect::Give(_, _) => 0,
+        Effect::Lower(_, _) => 0,
+        Effect::Store(_) => 0,
+        Effect::Create(_, _) => 0,
+        Effect::Launch(_, _, _) => 0,
+    }
 }

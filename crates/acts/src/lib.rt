@@ -1,38 +1,47 @@
-// One act of a run on what it reaches: the job that acts and one cell, both by value.
+// One act of a run on what it reaches: what it looks at of the job that acts, and one cell, both by value.
 mod effects;
 mod outsiders;
+mod reaching;
 mod registers;
 mod turns;
 
-use book::Value;
 use labels::Label;
 ghost use mathlib.Core.Path.{_≡_};
 ghost use Rattle.machine.specs.Histories.{sources};
 ghost use Rattle.machine.specs.Acts.{freshJob};
 ghost use Rattle.acts.specs.Views.{jobOf};
+pub use effects::answer_of;
 pub use outsiders::act_outside;
 pub use outsiders::is_such;
-pub use registers::number_of;
+pub use reaching::aimed_at;
+pub use reaching::clamp;
+pub use reaching::reached_by;
+pub use registers::gets;
+pub use registers::kind_of;
+pub use registers::lowered;
+pub use registers::moved;
+pub use registers::names;
 pub use registers::register_of;
 pub use turns::take_step;
 
-// A stored value: its source is the lowest label of its history.
+// A stored value: kind 0 plain, 1 a cell, any other a block, as the book reads kinds. Its source is the lowest label of its history.
 pub struct Stored {
-    pub value: Value,
+    pub number: u32,
+    pub kind: u8,
     pub source: Label,
 }
 
 pub struct Cell {
+    pub content: Stored,
     pub shape: u8,
     pub label: Label,
-    pub content: Stored,
 }
 
 // A job; its source is the lowest label of its history. Where its next step stands in the book is the run's to know.
 pub struct Job {
     pub block: u32,
-    pub position: usize,
-    pub at: usize,
+    pub position: u32,
+    pub at: u32,
     pub label: Label,
     pub source: Label,
     pub registers: [Stored; 8],
@@ -46,7 +55,7 @@ impl Job {
     pub const TABLE_SIZE: usize = 64;
 
     // A job at the start of its block, which stands at an offset of the book.
-    pub fn fresh(block: u32, at: usize, label: Label, source: Label) -> Job
+    pub fn fresh(block: u32, at: u32, label: Label, source: Label) -> Job
         ensures { λ x. ⌜ (jobOf x ≡ freshJob sources block label source) × (x .at ≡ at) × (x .position ≡ 0) × (x .block ≡ block) ⌝ }
     {
         let zero = registers::zero_with(source);
@@ -61,12 +70,6 @@ impl Job {
     }
 }
 
-// The number that a value of some kind holds, if the value is of that kind.
-pub enum Named {
-    Of(u32),
-    No,
-}
-
 // What an act looks at: the cell that it reaches, and how many cells and jobs are in use.
 pub struct Near {
     pub cell: Cell,
@@ -74,18 +77,13 @@ pub struct Near {
     pub jobs: usize,
 }
 
-// What an act does: it is blocked; it leaves the tables as they are; the cell that it reaches now stands so; a cell is new; a job of
-// this block, label and source is new.
+// What an act does: it is blocked; a register of the job that acts has this value; its label and its source are these; the cell that is reached
+// now stands so; a cell is new, and a register of the job that acts names it; a job of this block, label and source is new.
 pub enum Effect {
     Blocked,
-    Keep,
+    Give(u8, Stored),
+    Lower(Label, Label),
     Store(Cell),
-    Create(Cell),
+    Create(u8, Cell),
     Launch(u32, Label, Label),
-}
-
-// The job after its step, and what the step does to the tables.
-pub struct Turn {
-    pub job: Job,
-    pub effect: Effect,
 }

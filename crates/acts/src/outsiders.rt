@@ -115,9 +115,9 @@ pub fn is_such(c: Label, shapes: &[u8], blocks: usize, cells: usize, e: Event) -
 fn bring(q: Label, kind: u8, number: u32) -> Stored
     ensures { λ x. ⌜ storedOf x ≡ brought sources q kind number ⌝ }
 {
-    let value = book::value_of(kind, number);
     Stored {
-        value: value,
+        number: number,
+        kind: kind,
         source: q,
     }
 }
@@ -135,7 +135,7 @@ pub fn act_outside(e: Event, near: Near) -> Effect
         Event::RelabelBy(q, k, o) => effects::relabel_cell(q, q, near, k as u32, o),
         Event::NewBy(q, i, v, n) => {
             let x = bring(q, v, n);
-            effects::make_cell(q, q, near, i, x)
+            effects::make_cell(q, q, near, 0, i, x)
         }
         Event::ExecBy(q, k) => effects::exec_cell(q, q, near, k as u32),
         Event::StartBy(q, b) => effects::start_job(q, q, near, b as u32),

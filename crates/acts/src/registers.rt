@@ -1,117 +1,113 @@
-// The registers of a job.
+// The registers of a job, and a job whose step is done.
 use crate::Job;
-use crate::Named;
 use crate::Stored;
-use book::Value;
 use labels::Label;
 ghost use mathlib.Core.Path.{_≡_};
-ghost use Prim.Native.Nat.{_<_};
+ghost use Prim.Native.Nat.{_<_, _≤_};
+ghost use Rattle.book.specs.declared.Value.the-variants.{CellName};
 ghost use Rattle.machine.specs.Histories.{sources};
 ghost use Rattle.machine.specs.Acts.{acted, zeroWith};
-ghost use Rattle.machine.specs.Steps.{register, moved, gets};
-ghost use Rattle.machine.specs.Records.{numberOf};
-ghost use Rattle.acts.specs.Views.{storedOf, jobOf, plainNumber, cellNamed, blockNamed};
+ghost use Rattle.machine.specs.Steps.{moved, gets};
+ghost use Rattle.machine.specs.Records.{kindOf};
+ghost use Rattle.acts.specs.Views.{valueIn, storedOf, jobOf, registerIn, lowered};
 
 // What registers start as, and what one past the eighth holds.
 pub fn zero_with(h: Label) -> Stored
     ensures { λ x. ⌜ storedOf x ≡ zeroWith sources h ⌝ }
 {
     Stored {
-        value: Value::Plain(0),
+        number: 0,
+        kind: 0,
         source: h,
     }
 }
 
-pub fn register_of(j: Job, r: u8) -> Stored
-    ensures { λ x. ⌜ storedOf x ≡ register sources (jobOf j) r ⌝ }
+// A register of a job of source h.
+pub fn register_of(h: Label, registers: [Stored; 8], r: u8) -> Stored
+    ensures { λ x. ⌜ storedOf x ≡ registerIn h registers r ⌝ }
 {
     let i = r as usize;
-    let registers = j.registers;
     if i < 8 {
         return registers[i];
     }
-    zero_with(j.source)
+    zero_with(h)
 }
 
 // The value after an act.
 pub fn acted(h: Label, v: Stored) -> Stored
     ensures { λ x. ⌜ storedOf x ≡ acted sources h (storedOf v) ⌝ }
 {
-    let value = v.value;
     let source = v.source;
     Stored {
-        value: value,
+        number: v.number,
+        kind: v.kind,
         source: source.lower_of(h),
     }
 }
 
-// The step is done.
-pub fn moved(j: Job) -> Job
+// The kind as the tables show it: 2 is the last.
+pub fn kind_of(v: Stored) -> u8
+    ensures { λ r. ⌜ r ≡ kindOf (valueIn v) ⌝ }
+{
+    if v.kind < 2 {
+        return v.kind;
+    }
+    2
+}
+
+// The step is done, and the next one is at an offset of the book.
+pub fn moved(j: Job, next: u32) -> Job
     requires { ⌜ j .position < 65536 ⌝ }
-    ensures { λ x. ⌜ jobOf x ≡ moved sources (jobOf j) ⌝ }
+    ensures { λ x. ⌜ (jobOf x ≡ moved sources (jobOf j)) × (x .at ≡ next) ⌝ }
 {
     let mut t = j;
     t.position = j.position + 1;
+    t.at = next;
+    t
+}
+
+// The step is done, and the job has this label and source.
+pub fn lowered(j: Job, next: u32, l: Label, h: Label) -> Job
+    requires { ⌜ j .position < 65536 ⌝ }
+    ensures { λ x. ⌜ (jobOf x ≡ lowered (jobOf j) l h) × (x .at ≡ next) ⌝ }
+{
+    let mut t = j;
+    t.position = j.position + 1;
+    t.at = next;
+    t.label = l;
+    t.source = h;
     t
 }
 
 // The step is done, and register r has this value.
-pub fn gets(j: Job, r: u8, v: Value, h: Label) -> Job
+pub fn gets(j: Job, next: u32, r: u8, v: Stored) -> Job
     requires { ⌜ j .position < 65536 ⌝ }
-    ensures { λ x. ⌜ jobOf x ≡ gets sources (jobOf j) r v h ⌝ }
+    ensures { λ x. ⌜ (jobOf x ≡ gets sources (jobOf j) r (valueIn v) (v .source)) × (x .at ≡ next) ⌝ }
 {
     let i = r as usize;
     let mut t = j;
     t.position = j.position + 1;
+    t.at = next;
     if i < 8 {
-        t.registers[i] = Stored {
-            value: v,
-            source: h,
-        };
+        t.registers[i] = v;
     }
     t
 }
 
-// The number of a plain value.
-pub fn plain_number(v: Value) -> Named
-    ensures { λ x. ⌜ x ≡ plainNumber v ⌝ }
+// The step is done, and register r names the cell k, with the job's history.
+pub fn names(j: Job, next: u32, r: u8, k: usize) -> Job
+    requires { ⌜ (j .position < 65536) × (k ≤ 64) ⌝ }
+    ensures { λ x. ⌜ (jobOf x ≡ gets sources (jobOf j) r (CellName k) (j .source)) × (x .at ≡ next) ⌝ }
 {
-    match v {
-        Value::Plain(n) => Named::Of(n),
-        Value::CellName(_) => Named::No,
-        Value::CodeName(_) => Named::No,
-    }
-}
-
-// The number that a value holds, whatever its kind.
-pub fn number_of(v: Value) -> u32
-    ensures { λ r. ⌜ r ≡ numberOf v ⌝ }
-{
-    match v {
-        Value::Plain(n) => n,
-        Value::CellName(k) => k,
-        Value::CodeName(b) => b,
-    }
-}
-
-// The cell that a value names.
-pub fn cell_named(v: Value) -> Named
-    ensures { λ x. ⌜ x ≡ cellNamed v ⌝ }
-{
-    match v {
-        Value::Plain(_) => Named::No,
-        Value::CellName(k) => Named::Of(k),
-        Value::CodeName(_) => Named::No,
-    }
-}
-
-// The block that a value names.
-pub fn block_named(v: Value) -> Named
-    ensures { λ x. ⌜ x ≡ blockNamed v ⌝ }
-{
-    match v {
-        Value::Plain(_) => Named::No,
-        Value::CellName(_) => Named::No,
-        Value::CodeName(b) => Named::Of(b),
-    }
+    let source = j.source;
+    gets(
+        j,
+        next,
+        r,
+        Stored {
+            number: k as u32,
+            kind: 1,
+            source: source,
+        },
+    )
 }

@@ -1,43 +1,15 @@
-// A step of a job.
+// A step of a job at label l, with source h and these registers.
 use crate::Effect;
-use crate::Job;
-use crate::Named;
 use crate::Near;
-use crate::Turn;
+use crate::Stored;
 use crate::effects;
 use crate::registers;
 use book::Step;
-use book::Value;
 use labels::Label;
 ghost use mathlib.Core.Path.{_≡_};
-ghost use Prim.Native.Nat.{_<_, _≤_};
-ghost use Rattle.book.specs.declared.Step.the-variants.{Add, New, Read, Write, Relabel, Lower, Start, Exec};
-ghost use Rattle.machine.specs.Histories.{sources};
-ghost use Rattle.machine.specs.Steps.{sum, stay, giving, turnOf};
-ghost use Rattle.machine.specs.Events.{tableSize};
-ghost use Rattle.acts.specs.Views.{jobOf, nearby, turnTaken, numberIn, reachedBy};
-
-// Blocked.
-fn stay(j: Job) -> Turn
-    ensures { λ x. ⌜ turnTaken 0 x ≡ stay sources (jobOf j) ⌝ }
-{
-    Turn {
-        job: j,
-        effect: Effect::Blocked,
-    }
-}
-
-// Register r gets a value with the job's history.
-fn give(j: Job, r: u8, v: Value) -> Turn
-    requires { ⌜ j .position < 65536 ⌝ }
-    ensures { λ x. ⌜ turnTaken 0 x ≡ giving sources (jobOf j) r v ⌝ }
-{
-    let job = registers::gets(j, r, v, j.source);
-    Turn {
-        job: job,
-        effect: Effect::Keep,
-    }
-}
+ghost use Rattle.book.specs.declared.Step.the-variants.{Add, New, Read, Write, Relabel, Lower, Exec};
+ghost use Rattle.machine.specs.Steps.{sum};
+ghost use Rattle.acts.specs.Views.{nearby, Takes};
 
 // The sum modulo 4,294,967,296.
 fn add_numbers(x: u32, y: u32) -> u32
@@ -46,166 +18,131 @@ fn add_numbers(x: u32, y: u32) -> u32
     ((x as u64 + y as u64) % 4294967296) as u32
 }
 
-fn add(j: Job, near: Near, r: u8, a: u8, b: u8) -> Turn
-    requires { ⌜ j .position < 65536 ⌝ }
-    ensures { λ x. ⌜ turnTaken 0 x ≡ turnOf sources tableSize (nearby near) (jobOf j) (Add r a b) ⌝ }
+fn add(l: Label, h: Label, registers: [Stored; 8], near: Near, r: u8, a: u8, b: u8) -> Effect
+    ensures { λ x. ⌜ Takes (nearby near) (Add r a b) l h registers x ⌝ }
 {
-    let u = registers::register_of(j, a);
-    let v = registers::register_of(j, b);
-    let p = u.value;
-    let q = v.value;
-    let Named::Of(x) = registers::plain_number(p) else {
-        return stay(j);
-    };
-    let Named::Of(y) = registers::plain_number(q) else {
-        return stay(j);
-    };
-    let z = add_numbers(x, y);
+    let u = registers::register_of(h, registers, a);
+    let v = registers::register_of(h, registers, b);
+    if u.kind != 0 {
+        return Effect::Blocked;
+    }
+    if v.kind != 0 {
+        return Effect::Blocked;
+    }
+    let z = add_numbers(u.number, v.number);
     let s = u.source.lower_of(v.source);
-    let h = s.lower_of(j.source);
-    let job = registers::gets(j, r, Value::Plain(z), h);
-    Turn {
-        job: job,
-        effect: Effect::Keep,
-    }
+    Effect::Give(
+        r,
+        Stored {
+            number: z,
+            kind: 0,
+            source: s.lower_of(h),
+        },
+    )
 }
 
-fn new(j: Job, near: Near, r: u8, i: u8, a: u8) -> Turn
-    requires { ⌜ (j .position < 65536) × (near .cells ≤ 64) ⌝ }
-    ensures { λ x. ⌜ turnTaken 0 x ≡ turnOf sources tableSize (nearby near) (jobOf j) (New r i a) ⌝ }
+fn new(l: Label, h: Label, registers: [Stored; 8], near: Near, r: u8, i: u8, a: u8) -> Effect
+    ensures { λ x. ⌜ Takes (nearby near) (New r i a) l h registers x ⌝ }
 {
-    let v = registers::register_of(j, a);
-    let name = Value::CellName(near.cells as u32);
-    let job = registers::gets(j, r, name, j.source);
-    let effect = effects::make_cell(j.label, j.source, near, i, v);
-    Turn {
-        job: job,
-        effect: effect,
-    }
+    let v = registers::register_of(h, registers, a);
+    effects::make_cell(l, h, near, r, i, v)
 }
 
-fn read(j: Job, near: Near, r: u8, w: u8) -> Turn
-    requires { ⌜ j .position < 65536 ⌝ }
-    ensures { λ x. ⌜ turnTaken (numberIn (jobOf j) w) x ≡ turnOf sources tableSize (nearby near) (jobOf j) (Read r w) ⌝ }
+fn read(l: Label, h: Label, registers: [Stored; 8], near: Near, r: u8, w: u8) -> Effect
+    ensures { λ x. ⌜ Takes (nearby near) (Read r w) l h registers x ⌝ }
 {
-    let u = registers::register_of(j, w);
-    let name = u.value;
-    let Named::Of(k) = registers::cell_named(name) else {
-        return stay(j);
-    };
+    let u = registers::register_of(h, registers, w);
+    if u.kind != 1 {
+        return Effect::Blocked;
+    }
+    let k = u.number;
     if (k as usize) < near.cells {
         let cell = near.cell;
         let content = cell.content;
-        let t = registers::acted(j.source, content);
-        let value = t.value;
-        let job = registers::gets(j, r, value, t.source);
-        return Turn {
-            job: job,
-            effect: Effect::Keep,
-        };
+        let t = registers::acted(h, content);
+        return Effect::Give(r, t);
     }
-    stay(j)
+    Effect::Blocked
 }
 
-fn write(j: Job, near: Near, w: u8, a: u8) -> Turn
-    requires { ⌜ j .position < 65536 ⌝ }
-    ensures { λ x. ⌜ turnTaken (numberIn (jobOf j) w) x ≡ turnOf sources tableSize (nearby near) (jobOf j) (Write w a) ⌝ }
+fn write(l: Label, h: Label, registers: [Stored; 8], near: Near, w: u8, a: u8) -> Effect
+    ensures { λ x. ⌜ Takes (nearby near) (Write w a) l h registers x ⌝ }
 {
-    let u = registers::register_of(j, w);
-    let name = u.value;
-    let Named::Of(k) = registers::cell_named(name) else {
-        return stay(j);
-    };
-    let v = registers::register_of(j, a);
-    let job = registers::moved(j);
-    let effect = effects::write_cell(j.label, j.source, near, k, v);
-    Turn {
-        job: job,
-        effect: effect,
+    let u = registers::register_of(h, registers, w);
+    if u.kind != 1 {
+        return Effect::Blocked;
     }
+    let v = registers::register_of(h, registers, a);
+    effects::write_cell(l, h, near, u.number, v)
 }
 
-fn relabel(j: Job, near: Near, w: u8, o: Label) -> Turn
-    requires { ⌜ j .position < 65536 ⌝ }
-    ensures { λ x. ⌜ turnTaken (numberIn (jobOf j) w) x ≡ turnOf sources tableSize (nearby near) (jobOf j) (Relabel w o) ⌝ }
+fn relabel(l: Label, h: Label, registers: [Stored; 8], near: Near, w: u8, o: Label) -> Effect
+    ensures { λ x. ⌜ Takes (nearby near) (Relabel w o) l h registers x ⌝ }
 {
-    let u = registers::register_of(j, w);
-    let name = u.value;
-    let Named::Of(k) = registers::cell_named(name) else {
-        return stay(j);
-    };
-    let job = registers::moved(j);
-    let effect = effects::relabel_cell(j.label, j.source, near, k, o);
-    Turn {
-        job: job,
-        effect: effect,
+    let u = registers::register_of(h, registers, w);
+    if u.kind != 1 {
+        return Effect::Blocked;
     }
+    effects::relabel_cell(l, h, near, u.number, o)
 }
 
 // The label is lowered, and appended to the history.
-fn lower(j: Job, near: Near, q: Label) -> Turn
-    requires { ⌜ j .position < 65536 ⌝ }
-    ensures { λ x. ⌜ turnTaken 0 x ≡ turnOf sources tableSize (nearby near) (jobOf j) (Lower q) ⌝ }
+fn lower(l: Label, h: Label, registers: [Stored; 8], near: Near, q: Label) -> Effect
+    ensures { λ x. ⌜ Takes (nearby near) (Lower q) l h registers x ⌝ }
 {
-    let label = j.label;
-    if label.reaches(q) {
-        let source = j.source.lower_of(q);
-        let mut t = registers::moved(j);
-        t.label = q;
-        t.source = source;
-        return Turn {
-            job: t,
-            effect: Effect::Keep,
-        };
+    if l.reaches(q) {
+        let source = h.lower_of(q);
+        return Effect::Lower(q, source);
     }
-    stay(j)
+    Effect::Blocked
 }
 
-fn start(j: Job, near: Near, b: u8) -> Turn
-    requires { ⌜ j .position < 65536 ⌝ }
-    ensures { λ x. ⌜ turnTaken 0 x ≡ turnOf sources tableSize (nearby near) (jobOf j) (Start b) ⌝ }
+fn exec(l: Label, h: Label, registers: [Stored; 8], near: Near, w: u8) -> Effect
+    ensures { λ x. ⌜ Takes (nearby near) (Exec w) l h registers x ⌝ }
 {
-    let job = registers::moved(j);
-    let effect = effects::start_job(j.label, j.source, near, b as u32);
-    Turn {
-        job: job,
-        effect: effect,
+    let u = registers::register_of(h, registers, w);
+    if u.kind != 1 {
+        return Effect::Blocked;
     }
+    effects::exec_cell(l, h, near, u.number)
 }
 
-fn exec(j: Job, near: Near, w: u8) -> Turn
-    requires { ⌜ j .position < 65536 ⌝ }
-    ensures { λ x. ⌜ turnTaken (numberIn (jobOf j) w) x ≡ turnOf sources tableSize (nearby near) (jobOf j) (Exec w) ⌝ }
-{
-    let u = registers::register_of(j, w);
-    let name = u.value;
-    let Named::Of(k) = registers::cell_named(name) else {
-        return stay(j);
-    };
-    let job = registers::moved(j);
-    let effect = effects::exec_cell(j.label, j.source, near, k);
-    Turn {
-        job: job,
-        effect: effect,
-    }
-}
-
-// A step of job j.
-pub fn take_step(p: Step, j: Job, near: Near) -> Turn
-    requires { ⌜ (j .position < 65536) × (near .cells ≤ 64) ⌝ }
-    ensures { λ x. ⌜ turnTaken (reachedBy p (jobOf j)) x ≡ turnOf sources tableSize (nearby near) (jobOf j) p ⌝ }
+// A step.
+pub fn take_step(p: Step, l: Label, h: Label, registers: [Stored; 8], near: Near) -> Effect
+    ensures { λ x. ⌜ Takes (nearby near) p l h registers x ⌝ }
 {
     match p {
-        Step::Put(r, x) => give(j, r, Value::Plain(x)),
-        Step::Name(r, k) => give(j, r, Value::CellName(k as u32)),
-        Step::Code(r, b) => give(j, r, Value::CodeName(b as u32)),
-        Step::Add(r, a, b) => add(j, near, r, a, b),
-        Step::New(r, i, a) => new(j, near, r, i, a),
-        Step::Read(r, w) => read(j, near, r, w),
-        Step::Write(w, a) => write(j, near, w, a),
-        Step::Relabel(w, o) => relabel(j, near, w, o),
-        Step::Lower(q) => lower(j, near, q),
-        Step::Start(b) => start(j, near, b),
-        Step::Exec(w) => exec(j, near, w),
+        Step::Put(r, x) => Effect::Give(
+            r,
+            Stored {
+                number: x,
+                kind: 0,
+                source: h,
+            },
+        ),
+        Step::Name(r, k) => Effect::Give(
+            r,
+            Stored {
+                number: k as u32,
+                kind: 1,
+                source: h,
+            },
+        ),
+        Step::Code(r, b) => Effect::Give(
+            r,
+            Stored {
+                number: b as u32,
+                kind: 2,
+                source: h,
+            },
+        ),
+        Step::Add(r, a, b) => add(l, h, registers, near, r, a, b),
+        Step::New(r, i, a) => new(l, h, registers, near, r, i, a),
+        Step::Read(r, w) => read(l, h, registers, near, r, w),
+        Step::Write(w, a) => write(l, h, registers, near, w, a),
+        Step::Relabel(w, o) => relabel(l, h, registers, near, w, o),
+        Step::Lower(q) => lower(l, h, registers, near, q),
+        Step::Start(b) => effects::start_job(l, h, near, b as u32),
+        Step::Exec(w) => exec(l, h, registers, near, w),
     }
 }

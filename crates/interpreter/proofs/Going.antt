@@ -14,14 +14,12 @@ use Rattle.book.specs.Book.{parse}
 use Rattle.machine.specs.declared.Event.{Event}
 use Rattle.machine.specs.Histories.{sources}
 use Rattle.machine.specs.States.{State}
-use Rattle.machine.specs.Events.{tableSize, outcomeOf, stateAfter, answers}
+use Rattle.machine.specs.Events.{tableSize, Outcome, outcomeOf, stateAfter, answers}
 use Rattle.events.specs.Bytes.{next, eventAt, eventsFrom, eventsIn}
 use Rattle.events.proofs.Walks.{Whole, walk, events-end}
 use Rattle.acts.specs.declared.Cell.{Cell}
 use Rattle.acts.specs.declared.Job.{Job}
-use Rattle.plans.specs.declared.Deed.{Deed}
 use Rattle.interpreter.specs.Loop.{Holds, opening}
-use Rattle.interpreter.proofs.Lands.{stateOf, Lands}
 
 one-longer : (xs : List ℕ) (a : ℕ) → length (xs ++ a ∷ []) ≡ length xs + 1
 one-longer [] a = refl
@@ -68,29 +66,29 @@ module _ (b list before answers-now : List ℕ) (cells : List Cell) (n : ℕ) (j
     pub answer-fits : at < length before
     answer-fits = let e = ap length events-are in omega (arith, g .left, room)
 
-    module _ (e : Event) (ee : e ≡ eventAt list o) (p : ℕ) (ep : p ≡ next list o) (i k : ℕ) (z : Deed)
-        (lands : Lands b (g .state) m i k (outcomeOf sources tableSize (parse b) (g .state) e) z) where
+    module _ (e : Event) (ee : e ≡ eventAt list o) (p : ℕ) (ep : p ≡ next list o) (a : ℕ) (t : State Label)
+        (lands : outcomeOf sources tableSize (parse b) (g .state) e ≡ record { answer = a; state = t }) where
       here : eventsFrom list o ≡ e ∷ eventsFrom list p
       here = events-are ∙ rw (ee, ep) refl
 
       pub going-turn : (cells′ : List Cell) (n′ : ℕ) (jobs′ : List Job) (m′ : ℕ)
-          → Holds b (stateOf (g .state) i k (z .job) (z .effect)) cells′ n′ jobs′ m′
-          → Going b list before (set answers-now at (z .answer)) cells′ n′ jobs′ m′ (at + 1) p
+          → Holds b t cells′ n′ jobs′ m′
+          → Going b list before (set answers-now at a) cells′ n′ jobs′ m′ (at + 1) p
       unfolding stateAfter answers
       going-turn cells′ n′ jobs′ m′ hold =
           record {
-            state = stateOf (g .state) i k (z .job) (z .effect);
+            state = t;
             holds = hold;
             rest =
-                sym (ap (λ (s : State Label). stateAfter sources tableSize (parse b) s (eventsFrom list p)) (lands .state))
+                sym (ap (λ (s : State Label). stateAfter sources tableSize (parse b) s (eventsFrom list p)) (ap (λ (o : Outcome Label). o .state) lands))
                 ∙ sym (ap (stateAfter sources tableSize (parse b) (g .state)) here) ∙ g .rest;
-            said = g .said ++ z .answer ∷ [];
-            said-long = one-longer (g .said) (z .answer) ∙ ap (λ x. x + 1) (g .said-long);
+            said = g .said ++ a ∷ [];
+            said-long = one-longer (g .said) a ∙ ap (λ x. x + 1) (g .said-long);
             all =
-                append-assoc (g .said) (z .answer ∷ []) (answers sources tableSize (parse b) (stateOf (g .state) i k (z .job) (z .effect)) (eventsFrom list p))
-                ∙ rw (← lands .state, ← lands .answer) refl
+                append-assoc (g .said) (a ∷ []) (answers sources tableSize (parse b) t (eventsFrom list p))
+                ∙ rw lands refl
                 ∙ sym (ap (λ (es : List Event). g .said ++ answers sources tableSize (parse b) (g .state) es) here) ∙ g .all;
-            kept = rw (g .kept) (answer-put (g .said) before at (z .answer) (g .said-long) answer-fits);
+            kept = rw (g .kept) (answer-put (g .said) before at a (g .said-long) answer-fits);
             whole = rw ep (walk list o (g .whole) h .rest);
             left = let q = ap length here in omega (arith, g .left);
           }

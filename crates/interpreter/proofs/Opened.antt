@@ -9,10 +9,13 @@ use native.Mathlib.Omega.{arith}
 use lib.ListN.{getD-replicate, length, take, getD, set, replicate, length-set}
 use lib.Seq.{take-suc, take-suc-set, take-length}
 use Rattle.labels.specs.declared.Label.{Label}
+use Rattle.labels.specs.Labels.{label}
 use Rattle.book.specs.declared.Declared.{Declared}
 use Rattle.book.specs.declared.CellAt.{CellAt}
 use Rattle.book.specs.declared.CellAt.the-variants.{NoCell, CellThere}
-use Rattle.book.specs.Book.{parse, cellsOf, declaredAt}
+use Rattle.book.specs.declared.Value.{Value}
+use Rattle.book.specs.declared.Value.the-variants.{Plain, CellName, CodeName}
+use Rattle.book.specs.Book.{parse, cellsOf, declaredAt, valueOf}
 use Rattle.book.specs.Stretch.{cellFound}
 use Rattle.book.proofs.Limits.{most-cells}
 use Rattle.book.proofs.Readable.{readable}
@@ -21,6 +24,7 @@ use Rattle.book.proofs.Outlines.{listed}
 use Rattle.machine.specs.Histories.{sources}
 use Rattle.machine.specs.States as States
 use Rattle.machine.specs.Acts.{freshJob}
+use Rattle.machine.specs.Records.{kindOf, numberOf}
 use Rattle.machine.specs.Events.{declared}
 use Rattle.acts.specs.declared.Cell.{Cell}
 use Rattle.acts.specs.declared.Job.{Job}
@@ -79,11 +83,23 @@ module _ (b os : List ℕ) (cells : List Cell) (i : ℕ) (w : Filling b os cells
 
 pub ruleset fills = (fill-start, fill-room, fill-end, fill-none, fill-next)
 
+-- a value is told by its kind and its number
+value-back : (v : Value) → valueOf (kindOf v) (numberOf v) ≡ v
+unfolding valueOf
+value-back (Plain n) = refl
+value-back (CellName n) = refl
+value-back (CodeName n) = refl
+
+-- for the code: the value v of a declared cell, by its kind
+pub opened-is : (d : Declared) (v : Value) (k n : ℕ) → v ≡ d .value → k ≡ kindOf v → n ≡ numberOf v
+    → _≡_ {A = Cell} (record { content = record { number = n; kind = k; source = label 15 }; shape = d .shape; label = d .label }) (openedBy d)
+opened-is d v k n ev ek en = rw (ek, en, ev) refl
+
 -- the declared cells, as the machine has them
 declared-are : (b os : List ℕ) → map cellOf (openedCells b os) ≡ map (declared sources) (map (declaredAt b) os)
 unfolding openedCells
 declared-are b [] = refl
-declared-are b (o ∷ os) = ap (λ (l : List (States.Cell Label)). cellOf (openedBy (declaredAt b o)) ∷ l) (declared-are b os)
+declared-are b (o ∷ os) = rw (value-back (declaredAt b o .value), declared-are b os) refl
 
 -- what the loop asks for
 module _ (b : List ℕ) (c : Label) (shapes offsets starts : List ℕ) (bound : Label) (list cells jobs answers : List ℕ)

@@ -3,41 +3,48 @@
 --     plays        the laws
 -- Assumes nothing.
 use mathlib.Core.Path.{_≡_, refl, sym, ap, _∙_}
+use mathlib.Core.Bool.{Bool, true, false}
 use mathlib.Core.List.{List, map}
-use Prim.Native.Nat.{ℕ, _+_, _-_, _<_, _≤_}
+use Prim.Native.Nat.{ℕ, suc, _+_, _-_, _<_, _≤_}
 use native.Mathlib.Omega.{arith}
 use lib.ListN.{length, take, getD, set, replicate, length-set, length-map}
 use Rattle.labels.specs.declared.Label.{Label}
-use Rattle.labels.specs.Labels.{label}
 use Rattle.book.specs.declared.Refusal.the-variants.{Passed}
-use Rattle.book.specs.declared.Value.the-variants.{Plain}
+use Rattle.book.specs.declared.Value.the-variants.{CellName}
+use Rattle.book.specs.declared.Step.{Step}
+use Rattle.book.specs.declared.StepAt.{StepAt}
+use Rattle.book.specs.declared.StepAt.the-variants.{NoStep, StepThere}
+use Rattle.book.specs.Spans.{byteAt}
+use Rattle.book.specs.Stretch.{stepFound}
 use Rattle.book.specs.Book.{parse, blocksOf, blockAt}
+use Rattle.book.specs.Refusals.{unreadable}
 use Rattle.book.specs.Outline.{shapeIn, startAt}
 use Rattle.book.proofs.Readable.{readable}
 use Rattle.machine.specs.Histories.{sources}
+use Rattle.machine.specs.declared.Event.{Event}
+use Rattle.machine.specs.declared.Event.the-variants.{StepOf}
+use Rattle.machine.specs.States.{State}
+use Rattle.machine.specs.States as States
 use Rattle.machine.specs.Acts.{freshJob}
+use Rattle.machine.specs.Steps.{moved, gets}
 use Rattle.machine.specs.Events.{tableSize, outcomeOf}
-use Rattle.events.specs.Bytes.{next}
+use Rattle.events.specs.Bytes.{next, eventAt}
 use Rattle.events.proofs.Walks.{walk, passed-whole, passed-short}
 use Rattle.acts.specs.declared.Cell.{Cell}
 use Rattle.acts.specs.declared.Job.{Job}
 use Rattle.acts.specs.declared.Effect.{Effect}
-use Rattle.acts.specs.declared.Effect.the-variants.{Blocked, Keep, Store, Create, Launch}
-use Rattle.acts.specs.Views.{jobOf, effectOf}
-use Rattle.acts.proofs.Nearby.{create-room, launch-room}
-use Rattle.plans.specs.declared.Plan.{Plan}
-use Rattle.plans.specs.declared.Plan.the-variants.{Halt}
-use Rattle.plans.specs.declared.Seen.{Seen}
-use Rattle.plans.specs.declared.Aim.{Aim}
-use Rattle.plans.specs.declared.Deed.{Deed}
-use Rattle.plans.specs.Plans.{Sees, Aims, Performs, planOf, actorOf, aimOf}
+use Rattle.acts.specs.declared.Effect.the-variants.{Blocked, Give, Lower, Store, Create, Launch}
+use Rattle.acts.specs.declared.Stored.{Stored}
+use Rattle.acts.specs.Views.{valueIn, jobOf, nearby, effectOf, jobAfter, answerOf, lowered, reachedIn, clamped, Takes}
+use Rattle.acts.specs.Outside.{such, aimedAt, outside}
+use Rattle.acts.proofs.Nearby.{Allowed, store-inside, create-room, launch-room}
 use Rattle.tables.specs.Bytes.{savedCells, savedJobs}
 use Rattle.tables.specs.Asked.{NarrowJobs}
 use Rattle.interpreter.specs.Loop.{Placed, Holds, startIn, openedCells, First, Ready}
 use Rattle.interpreter.specs.Run.{Run, ranOf}
-use Rattle.interpreter.proofs.Lands.{stateOf, Lands, cells-in-use, jobs-in-use}
-use Rattle.interpreter.proofs.Events.{lands}
-use Rattle.interpreter.proofs.Holding.{holds-keep, holds-store, holds-past, holds-create, holds-launch}
+use Rattle.interpreter.proofs.Lands.{stateOf, withJob, cells-in-use, jobs-in-use, in-table, next-inside, step-past, step-none, step-done, step-fits, step-placed, act-done, act-fits}
+use Rattle.interpreter.proofs.Events.{step-here, act-here, act-none, act-some}
+use Rattle.interpreter.proofs.Holding.{holds-job, holds-store, holds-create, holds-launch}
 use Rattle.interpreter.proofs.Going.{Going, going-start, answer-fits, going-turn, going-end}
 use Rattle.interpreter.proofs.Narrows.{played-narrow}
 use Rattle.interpreter.proofs.Starts.{placed-fresh}
@@ -70,22 +77,24 @@ playing-start b c shapes offsets starts bound list room-cells room-jobs before y
       at-most = omega arith;
     }
 
+-- an offset of a readable book fits 16 bits
+pub ready-book : (b : List ℕ) → unreadable b ≡ Passed → length b ≤ 65535
+ready-book b e = let r = readable b e in omega (arith, r .short)
+
 blocks-count : (b starts : List ℕ) → starts ≡ map startAt (blocksOf b) → length starts ≡ length (parse b .blocks)
 unfolding parse
 blocks-count b starts e = ap length e ∙ length-map (blocksOf b) startAt ∙ sym (length-map (blocksOf b) (blockAt b))
 
 module _ (b : List ℕ) (c : Label) (shapes offsets starts list room-cells room-jobs before now : List ℕ) (cells : List Cell) (n : ℕ) (jobs : List Job) (m o at : ℕ) (w : Playing b c shapes offsets starts list room-cells room-jobs before now cells n jobs m o at) where
   -- every job of the array is where the book says
-  pub playing-small : (i : ℕ) (d j : Job) → i < 64 → j ≡ getD jobs i d → j .position < 65536
-  playing-small i d j h e =
-      let p = w .going .holds .placed i d h in
+  pub playing-small : (i : ℕ) (d : Job) → i < m → getD jobs i d .position < 65536
+  playing-small i d h =
+      let p = w .going .holds .placed i d (omega (arith, w .going .holds .jobs-fit)) in
       let r = readable b (w .setting .readable) in
-      let q = ap (λ (j : Job). j .position) e in
-      omega (arith, p .behind, p .inside, r .short, q)
+      omega (arith, p .behind, p .inside, r .short)
 
-  -- what `perform` asks for
-  pub playing-ready : (seen : Seen) (d : Job) → Sees list o c (shapeIn shapes) (length starts) n seen → (getD jobs (seen .actor) d .position < 65536) × (n ≤ 64)
-  playing-ready seen d es = (playing-small (seen .actor) d (getD jobs (seen .actor) d) (es .inside) refl, w .cells-fit)
+  pub playing-book : length b ≤ 65535
+  playing-book = ready-book b (w .setting .readable)
 
   pub playing-sized : (n ≤ 64) × (length room-cells ≡ 576)
   playing-sized = (w .cells-fit, w .setting .lent .cells-sized)
@@ -105,118 +114,219 @@ module _ (b : List ℕ) (c : Label) (shapes offsets starts list room-cells room-
   pub playing-fit : (n ≤ 64) × (m ≤ 64)
   playing-fit = (w .cells-fit, w .going .holds .jobs-fit)
 
+  pub playing-entry : (i : ℕ) → i < m → i < 64
+  playing-entry i h = omega (arith, w .going .holds .jobs-fit)
+
   module _ (h : o < length list) where
     pub playing-few : at < 65536
     playing-few = omega (arith, w .at-most, passed-short list (w .setting .lent .playable))
 
+    pub playing-off : o < 65536
+    playing-off = omega (arith, passed-short list (w .setting .lent .playable))
+
     pub playing-fits : at < length now
     playing-fits = let f = answer-fits b list before now cells n jobs m at o (w .going) h (w .setting .lent .room) in omega (arith, w .long)
 
-    module _ (seen : Seen) (es : Sees list o c (shapeIn shapes) (length starts) n seen) where
-      pub playing-falls : length list - seen .next < length list - o
-      playing-falls = let k = walk list o (w .going .whole) h in omega (arith, es .next-is, k .further, k .inside)
+    pub playing-falls : (p : ℕ) → p ≡ next list o → length list - p < length list - o
+    playing-falls p ep = let k = walk list o (w .going .whole) h in omega (arith, ep, k .further, k .inside)
 
-      -- what the event asks for, of a job that stands where the array says
-      module _ (d j : Job) (ej : j ≡ getD jobs (seen .actor) d) (plan : Plan)
-          (ep : plan ≡ planOf b m (seen .such) (seen .event) (j .at)) where
-        -- what the turn did
-        module _ (aim : Aim) (ea : Aims plan (seen .event) j aim) (dc cell : Cell) (ec : cell ≡ getD cells (aim .entry) dc) (z : Deed)
-            (ez : Performs (seen .event) j (record { cell = cell; cells = n; jobs = m }) plan z) where
-          turn : Lands b (w .going .state) m (seen .actor) (aim .cell) (outcomeOf sources tableSize (parse b) (w .going .state) (seen .event)) z
-          turn =
-              lands b (shapeIn shapes) (w .setting .shapes-are) (length starts) (blocks-count b starts (w .setting .starts-are)) (w .going .state) cells n
-              jobs m (w .going .holds) (seen .event) (actorOf (seen .event)) (seen .actor) d j plan (aim .cell) (aim .entry) dc cell z refl
-              (es .actor) ej (rw (← w .setting .c-is) (ep ∙ ap (λ t. planOf b m t (seen .event) (j .at)) (es .such-is))) (ea .cell) (ea .entry) ec ez
+    -- the event e, the offset p past it, its answer a and the state t after it
+    further : (e : Event) → e ≡ eventAt list o → (p : ℕ) → p ≡ next list o → (a : ℕ) (t : State Label)
+        → outcomeOf sources tableSize (parse b) (w .going .state) e ≡ record { answer = a; state = t }
+        → (cells′ : List Cell) (n′ : ℕ) (jobs′ : List Job) (m′ : ℕ) → n′ ≤ 64 → Holds b t cells′ n′ jobs′ m′
+        → Playing b c shapes offsets starts list room-cells room-jobs before (set now at a) cells′ n′ jobs′ m′ p (at + 1)
+    further e ee p ep a t lands cells′ n′ jobs′ m′ f q =
+        let k = walk list o (w .going .whole) h in
+        record {
+          bound = w .bound;
+          setting = w .setting;
+          going = going-turn b list before now cells n jobs m at o (w .going) h (w .setting .lent .room) e ee p ep a t lands cells′ n′ jobs′ m′ q;
+          long = length-set now at a ∙ w .long;
+          cells-fit = f;
+          inside = omega (arith, ep, k .inside);
+          at-most = omega (arith, ep, k .further, w .at-most);
+        }
 
-          further : (cells′ : List Cell) (n′ : ℕ) (jobs′ : List Job) (m′ : ℕ) → n′ ≤ 64
-              → Holds b (stateOf (w .going .state) (seen .actor) (aim .cell) (z .job) (z .effect)) cells′ n′ jobs′ m′
-              → Playing b c shapes offsets starts list room-cells room-jobs before (set now at (z .answer)) cells′ n′ jobs′ m′ (seen .next) (at + 1)
-          further cells′ n′ jobs′ m′ f q =
-              let k = walk list o (w .going .whole) h in
-              record {
-                bound = w .bound;
-                setting = w .setting;
-                going =
-                    going-turn b list before now cells n jobs m at o (w .going) h (w .setting .lent .room) (seen .event) (es .event) (seen .next)
-                    (es .next-is) (seen .actor) (aim .cell) z turn cells′ n′ jobs′ m′ q;
-                long = length-set now at (z .answer) ∙ w .long;
-                cells-fit = f;
-                inside = omega (arith, es .next-is, k .inside);
-                at-most = omega (arith, es .next-is, k .further, w .at-most);
-              }
+    module _ (p : ℕ) (ep : p ≡ next list o) where
+      -- a step of job i
+      module _ (here : getD list o 0 ≡ 80) (i : ℕ) (ei : i ≡ byteAt list (o + 1)) where
+        event : StepOf i ≡ eventAt list o
+        event = ap StepOf ei ∙ step-here list o here
 
-          pub playing-blocked : z .effect ≡ Blocked → Playing b c shapes offsets starts list room-cells room-jobs before (set now at (z .answer)) cells n jobs m (seen .next) (at + 1)
+        pub playing-past : m ≤ i → Playing b c shapes offsets starts list room-cells room-jobs before (set now at 3) cells n jobs m p (at + 1)
+        playing-past r =
+            further (StepOf i) event p ep 3 (w .going .state) (step-past b (w .going .state) cells n jobs m (w .going .holds) i r) cells n jobs m (w .cells-fit)
+            (w .going .holds)
+
+        module _ (r : i < m) (d : Job) (f : StepAt) (ef : f ≡ stepFound b (getD jobs i d .at)) where
+          pub playing-over : f ≡ NoStep → Playing b c shapes offsets starts list room-cells room-jobs before (set now at 2) cells n jobs m p (at + 1)
+          playing-over e =
+              further (StepOf i) event p ep 2 (w .going .state) (step-none b (w .going .state) cells n jobs m (w .going .holds) i d r (sym ef ∙ e)) cells n jobs m
+              (w .cells-fit) (w .going .holds)
+
+          -- step y, and the offset u past it
+          module _ (y : Step) (u : ℕ) (eu : f ≡ StepThere y u) where
+            pub playing-next : u < 65536
+            playing-next =
+                let s = readable b (w .setting .readable) in
+                let v = next-inside b (getD jobs i d) (w .going .holds .placed i d (omega (arith, w .going .holds .jobs-fit))) y u (sym ef ∙ eu) in
+                omega (arith, s .short)
+
+            module _ (k : ℕ) (ek : k ≡ reachedIn y (getD jobs i d .source) (getD jobs i d .registers)) (q : ℕ) (eq : q ≡ clamped k) (dc cell : Cell)
+                (ec : cell ≡ getD cells q dc) (x : Effect)
+                (ex : Takes (nearby (record { cell = cell; cells = n; jobs = m })) y (getD jobs i d .label) (getD jobs i d .source) (getD jobs i d .registers) x)
+                (a : ℕ) (ea : a ≡ answerOf x) where
+              looked : cell ≡ getD cells (clamped (reachedIn y (getD jobs i d .source) (getD jobs i d .registers))) dc
+              looked = ec ∙ ap (λ q. getD cells q dc) (eq ∙ ap clamped ek)
+
+              stepped : (g : Job) → jobOf g ≡ jobAfter (w .going .state) (jobOf (getD jobs i d)) x
+                  → (cells′ : List Cell) (n′ : ℕ) (jobs′ : List Job) (m′ : ℕ) → n′ ≤ 64
+                  → Holds b (stateOf (w .going .state) (withJob (w .going .state) i g) k x) cells′ n′ jobs′ m′
+                  → Playing b c shapes offsets starts list room-cells room-jobs before (set now at a) cells′ n′ jobs′ m′ p (at + 1)
+              stepped g eg cells′ n′ jobs′ m′ l v =
+                  further (StepOf i) event p ep a (stateOf (w .going .state) (withJob (w .going .state) i g) k x)
+                  (rw (ea, ek) (step-done b (w .going .state) cells n jobs m (w .going .holds) i d r y u (sym ef ∙ eu) dc cell looked x ex g eg)) cells′ n′ jobs′ m′ l v
+
+              fits : Allowed (w .going .state) (effectOf k x)
+              fits = rw ek (step-fits b (w .going .state) cells n jobs m (w .going .holds) i d r y u (sym ef ∙ eu) dc cell looked x ex)
+
+              -- the job put back
+              put : (g : Job) → g .at ≡ u → jobOf g .block ≡ getD jobs i d .block → jobOf g .position ≡ suc (getD jobs i d .position)
+                  → Holds b (withJob (w .going .state) i g) cells n (set jobs i g) m
+              put g eat eb epo =
+                  holds-job b (w .going .state) cells n jobs m (w .going .holds) i g r
+                  (step-placed b (w .going .state) cells n jobs m (w .going .holds) i d r y u (sym ef ∙ eu) dc cell looked x ex g eat eb epo)
+
+              pub playing-blocked : x ≡ Blocked → Playing b c shapes offsets starts list room-cells room-jobs before (set now at a) cells n jobs m p (at + 1)
+              unfolding jobAfter stateOf
+              playing-blocked e = stepped (getD jobs i d) (rw e refl) cells n jobs m (w .cells-fit) (rw e (w .going .holds))
+
+              pub playing-room : (z : ℕ) (y′ : Cell) → x ≡ Create z y′ → n < 64
+              unfolding effectOf
+              playing-room z y′ e = let t = create-room (w .going .state) (rw e at fits) in omega (arith, cells-in-use b (w .going .state) cells n jobs m (w .going .holds))
+
+              pub playing-free : (z : ℕ) (l s : Label) → x ≡ Launch z l s → m < 64
+              unfolding effectOf
+              playing-free z l s e = let t = launch-room (w .going .state) (rw e at fits) in omega (arith, jobs-in-use b (w .going .state) cells n jobs m (w .going .holds))
+
+              module _ (g : Job) (eat : g .at ≡ u) where
+                pub playing-give : (z : ℕ) (v : Stored) → x ≡ Give z v → jobOf g ≡ gets sources (jobOf (getD jobs i d)) z (valueIn v) (v .source)
+                    → Playing b c shapes offsets starts list room-cells room-jobs before (set now at a) cells n (set jobs i g) m p (at + 1)
+                unfolding jobAfter stateOf
+                playing-give z v e eg =
+                    stepped g (rw e eg) cells n (set jobs i g) m (w .cells-fit)
+                    (rw e (put g eat (ap (λ (j : States.Job Label). j .block) eg) (ap (λ (j : States.Job Label). j .position) eg)))
+
+                pub playing-lower : (l s : Label) → x ≡ Lower l s → jobOf g ≡ lowered (jobOf (getD jobs i d)) l s → Playing b c shapes offsets starts list room-cells room-jobs before (set now at a) cells n (set jobs i g) m p (at + 1)
+                unfolding jobAfter stateOf
+                playing-lower l s e eg =
+                    stepped g (rw e eg) cells n (set jobs i g) m (w .cells-fit)
+                    (rw e (put g eat (ap (λ (j : States.Job Label). j .block) eg) (ap (λ (j : States.Job Label). j .position) eg)))
+
+                pub playing-store : (z : Cell) → x ≡ Store z → jobOf g ≡ moved sources (jobOf (getD jobs i d)) → Playing b c shapes offsets starts list room-cells room-jobs before (set now at a) (set cells q z) n (set jobs i g) m p (at + 1)
+                unfolding jobAfter stateOf effectOf
+                playing-store z e eg =
+                    let v = put g eat (ap (λ (j : States.Job Label). j .block) eg) (ap (λ (j : States.Job Label). j .position) eg) in
+                    let t = store-inside (w .going .state) (rw e at fits) in
+                    let qk : q ≡ k = eq ∙ in-table b (w .going .state) cells n jobs m (w .going .holds) k (omega (arith, cells-in-use b (w .going .state) cells n jobs m (w .going .holds))) in
+                    rw qk (stepped g (rw e eg) (set cells k z) n (set jobs i g) m (w .cells-fit)
+                    (rw e (holds-store b (withJob (w .going .state) i g) cells n (set jobs i g) m v z k)))
+
+                module _ (z : ℕ) (y′ : Cell) (e : x ≡ Create z y′) where
+                  pub playing-create : jobOf g ≡ gets sources (jobOf (getD jobs i d)) z (CellName n) (getD jobs i d .source)
+                      → Playing b c shapes offsets starts list room-cells room-jobs before (set now at a) (set cells n y′) (n + 1) (set jobs i g) m p (at + 1)
+                  unfolding jobAfter stateOf
+                  playing-create eg =
+                      let v = put g eat (ap (λ (j : States.Job Label). j .block) eg) (ap (λ (j : States.Job Label). j .position) eg) in
+                      let l = cells-in-use b (w .going .state) cells n jobs m (w .going .holds) in
+                      stepped g (rw (e, l) eg) (set cells n y′) (n + 1) (set jobs i g) m (let t = playing-room z y′ e in omega arith)
+                      (rw e (holds-create b (withJob (w .going .state) i g) cells n (set jobs i g) m v y′ (playing-room z y′ e)))
+
+                module _ (z : ℕ) (l s : Label) (e : x ≡ Launch z l s) where
+                  pub playing-launch : (start : ℕ) (child : Job) → jobOf g ≡ moved sources (jobOf (getD jobs i d)) → start ≡ startIn starts z (length b)
+                      → jobOf child ≡ freshJob sources z l s → child .at ≡ start → child .position ≡ 0 → child .block ≡ z
+                      → Playing b c shapes offsets starts list room-cells room-jobs before (set now at a) cells n (set (set jobs i g) m child) (m + 1) p (at + 1)
+                  unfolding jobAfter stateOf
+                  playing-launch start child eg st ec′ ea′ ep′ eb′ =
+                      let v = put g eat (ap (λ (j : States.Job Label). j .block) eg) (ap (λ (j : States.Job Label). j .position) eg) in
+                      stepped g (rw e eg) cells n (set (set jobs i g) m child) (m + 1) (w .cells-fit)
+                      (rw e
+                      (holds-launch b (withJob (w .going .state) i g) cells n (set jobs i g) m v z l s child (playing-free z l s e) ec′
+                      (placed-fresh b (w .setting .readable) starts (w .setting .starts-are) child z eb′ ep′ (ea′ ∙ st))))
+
+      -- an outsider's event
+      module _ (here : getD list o 0 ≡ 80 → ⊥) (e : Event) (ee : e ≡ eventAt list o) (f : Bool) (ef : f ≡ such c (shapeIn shapes) (length starts) n e) where
+        known : f ≡ such (parse b .c) (shapeIn shapes) (length starts) n e
+        known = rw (← w .setting .c-is) ef
+
+        pub playing-none : f ≡ false → Playing b c shapes offsets starts list room-cells room-jobs before (set now at 3) cells n jobs m p (at + 1)
+        playing-none t =
+            further e ee p ep 3 (w .going .state)
+            (act-none b (shapeIn shapes) (w .setting .shapes-are) (length starts) (blocks-count b starts (w .setting .starts-are)) (w .going .state) e
+            (act-here list o e here ee) n (cells-in-use b (w .going .state) cells n jobs m (w .going .holds)) f known t)
+            cells n jobs m (w .cells-fit) (w .going .holds)
+
+        module _ (t : f ≡ true) (k : ℕ) (ek : k ≡ aimedAt e) (q : ℕ) (eq : q ≡ clamped k) (dc cell : Cell) (ec : cell ≡ getD cells q dc) (x : Effect)
+            (ex : effectOf (aimedAt e) x ≡ outside (nearby (record { cell = cell; cells = n; jobs = m })) e) (a : ℕ) (ea : a ≡ answerOf x) where
+          sight : cell ≡ getD cells (clamped (aimedAt e)) dc
+          sight = ec ∙ ap (λ q. getD cells q dc) (eq ∙ ap clamped ek)
+
+          acted : (cells′ : List Cell) (n′ : ℕ) (jobs′ : List Job) (m′ : ℕ) → n′ ≤ 64
+              → Holds b (stateOf (w .going .state) (w .going .state) k x) cells′ n′ jobs′ m′ → Playing b c shapes offsets starts list room-cells room-jobs before (set now at a) cells′ n′ jobs′ m′ p (at + 1)
+          acted cells′ n′ jobs′ m′ l v =
+              further e ee p ep a (stateOf (w .going .state) (w .going .state) k x)
+              (rw (ea, ek)
+              (act-done b (w .going .state) cells n jobs m (w .going .holds) e dc cell sight x ex _
+              (act-some b (shapeIn shapes) (w .setting .shapes-are) (length starts) (blocks-count b starts (w .setting .starts-are)) (w .going .state) e
+              (act-here list o e here ee) n (cells-in-use b (w .going .state) cells n jobs m (w .going .holds)) f known t)))
+              cells′ n′ jobs′ m′ l v
+
+          allowed : Allowed (w .going .state) (effectOf k x)
+          allowed = rw ek (act-fits b (w .going .state) cells n jobs m (w .going .holds) e dc cell sight x ex)
+
+          pub acting-blocked : x ≡ Blocked → Playing b c shapes offsets starts list room-cells room-jobs before (set now at a) cells n jobs m p (at + 1)
           unfolding stateOf
-          playing-blocked e = further cells n jobs m (w .cells-fit) (rw e (w .going .holds))
+          acting-blocked d = acted cells n jobs m (w .cells-fit) (rw d (w .going .holds))
 
-          -- the effect is not blocked
-          module _ (f : Effect) (e : z .effect ≡ f) (a : f ≡ Blocked → ⊥) where
-            standing : seen .actor < m
-            standing = turn .stands (λ q. a (sym e ∙ q))
+          pub acting-give : (z : ℕ) (v : Stored) → x ≡ Give z v → Playing b c shapes offsets starts list room-cells room-jobs before (set now at a) cells n jobs m p (at + 1)
+          unfolding stateOf
+          acting-give z v d = acted cells n jobs m (w .cells-fit) (rw d (w .going .holds))
 
-            placed : Placed b (z .job)
-            placed = turn .placed (λ q. a (sym e ∙ q))
+          pub acting-lower : (l s : Label) → x ≡ Lower l s → Playing b c shapes offsets starts list room-cells room-jobs before (set now at a) cells n jobs m p (at + 1)
+          unfolding stateOf
+          acting-lower l s d = acted cells n jobs m (w .cells-fit) (rw d (w .going .holds))
 
-          pub playing-keep : z .effect ≡ Keep
-              → Playing b c shapes offsets starts list room-cells room-jobs before (set now at (z .answer)) cells n (set jobs (seen .actor) (z .job)) m (seen .next) (at + 1)
-          playing-keep e =
-              let a : Keep ≡ Blocked → ⊥ = λ q. let u : _≡_ {A = ℕ} 0 1 = cc in omega arith in
-              further cells n (set jobs (seen .actor) (z .job)) m (w .cells-fit)
-              (rw e (holds-keep b (w .going .state) cells n jobs m (w .going .holds) (seen .actor) (aim .cell) (z .job) (standing Keep e a) (placed Keep e a)))
+          pub acting-store : (z : Cell) → x ≡ Store z → Playing b c shapes offsets starts list room-cells room-jobs before (set now at a) (set cells q z) n jobs m p (at + 1)
+          unfolding stateOf effectOf
+          acting-store z d =
+              let u = store-inside (w .going .state) (rw d at allowed) in
+              let qk : q ≡ k = eq ∙ in-table b (w .going .state) cells n jobs m (w .going .holds) k (omega (arith, cells-in-use b (w .going .state) cells n jobs m (w .going .holds))) in
+              rw qk (acted (set cells k z) n jobs m (w .cells-fit) (rw d (holds-store b (w .going .state) cells n jobs m (w .going .holds) z k)))
 
-          module _ (x : Cell) where
-            pub playing-store : z .effect ≡ Store x
-                → Playing b c shapes offsets starts list room-cells room-jobs before (set now at (z .answer)) (set cells (aim .cell) x) n (set jobs (seen .actor) (z .job)) m (seen .next)
-                (at + 1)
-            playing-store e =
-                let a : Store x ≡ Blocked → ⊥ = λ q. let u : _≡_ {A = ℕ} 0 1 = cc in omega arith in
-                further (set cells (aim .cell) x) n (set jobs (seen .actor) (z .job)) m (w .cells-fit)
-                (rw e (holds-store b (w .going .state) cells n jobs m (w .going .holds) (seen .actor) (aim .cell) (z .job) (standing (Store x) e a) (placed (Store x) e a) x))
-
-            pub playing-past : z .effect ≡ Store x → 64 ≤ aim .cell
-                → Playing b c shapes offsets starts list room-cells room-jobs before (set now at (z .answer)) cells n (set jobs (seen .actor) (z .job)) m (seen .next) (at + 1)
-            playing-past e k =
-                let a : Store x ≡ Blocked → ⊥ = λ q. let u : _≡_ {A = ℕ} 0 1 = cc in omega arith in
-                further cells n (set jobs (seen .actor) (z .job)) m (w .cells-fit)
-                (rw e (holds-past b (w .going .state) cells n jobs m (w .going .holds) (seen .actor) (aim .cell) (z .job) (standing (Store x) e a) (placed (Store x) e a) x k))
-
-            pub playing-room : z .effect ≡ Create x → n < 64
+          module _ (z : ℕ) (y : Cell) (d : x ≡ Create z y) where
+            pub acting-room : n < 64
             unfolding effectOf
-            playing-room e = let r = create-room (w .going .state) (rw e at (turn .room)) in omega (arith, cells-in-use b (w .going .state) cells n jobs m (w .going .holds))
+            acting-room = let u = create-room (w .going .state) (rw d at allowed) in omega (arith, cells-in-use b (w .going .state) cells n jobs m (w .going .holds))
 
-            pub playing-create : z .effect ≡ Create x
-                → Playing b c shapes offsets starts list room-cells room-jobs before (set now at (z .answer)) (set cells n x) (n + 1) (set jobs (seen .actor) (z .job)) m (seen .next)
-                (at + 1)
-            playing-create e =
-                let a : Create x ≡ Blocked → ⊥ = λ q. let u : _≡_ {A = ℕ} 0 1 = cc in omega arith in
-                let r = playing-room e in
-                further (set cells n x) (n + 1) (set jobs (seen .actor) (z .job)) m (omega arith)
-                (rw e (holds-create b (w .going .state) cells n jobs m (w .going .holds) (seen .actor) (aim .cell) (z .job) (standing (Create x) e a) (placed (Create x) e a) x r))
+            pub acting-create : Playing b c shapes offsets starts list room-cells room-jobs before (set now at a) (set cells n y) (n + 1) jobs m p (at + 1)
+            unfolding stateOf
+            acting-create =
+                acted (set cells n y) (n + 1) jobs m (omega (arith, acting-room))
+                (rw d (holds-create b (w .going .state) cells n jobs m (w .going .holds) y acting-room))
 
-          module _ (x : ℕ) (l g : Label) where
-            pub playing-free : z .effect ≡ Launch x l g → m < 64
+          module _ (z : ℕ) (l s : Label) (d : x ≡ Launch z l s) where
+            pub acting-free : m < 64
             unfolding effectOf
-            playing-free e = let r = launch-room (w .going .state) (rw e at (turn .room)) in omega (arith, jobs-in-use b (w .going .state) cells n jobs m (w .going .holds))
+            acting-free = let u = launch-room (w .going .state) (rw d at allowed) in omega (arith, jobs-in-use b (w .going .state) cells n jobs m (w .going .holds))
 
-            pub playing-launch : (start : ℕ) (child : Job) → z .effect ≡ Launch x l g → start ≡ startIn starts x (length b)
-                → jobOf child ≡ freshJob sources x l g → child .at ≡ start → child .position ≡ 0 → child .block ≡ x
-                → Playing b c shapes offsets starts list room-cells room-jobs before (set now at (z .answer)) cells n (set (set jobs (seen .actor) (z .job)) m child) (m + 1) (seen .next)
-                (at + 1)
-            playing-launch start child e st ef ea′ ep eb =
-                let a : Launch x l g ≡ Blocked → ⊥ = λ q. let u : _≡_ {A = ℕ} 0 1 = cc in omega arith in
-                further cells n (set (set jobs (seen .actor) (z .job)) m child) (m + 1) (w .cells-fit)
-                (rw e
-                (holds-launch b (w .going .state) cells n jobs m (w .going .holds) (seen .actor) (aim .cell) (z .job) (standing (Launch x l g) e a)
-                (placed (Launch x l g) e a) x l g child (playing-free e) ef
-                (placed-fresh b (w .setting .readable) starts (w .setting .starts-are) child x eb ep (ea′ ∙ st))))
-
-        -- the event is answered at once; which cell is looked up then plays no part
-        pub playing-halted : (a : ℕ) → plan ≡ Halt a → Playing b c shapes offsets starts list room-cells room-jobs before (set now at a) cells n jobs m (seen .next) (at + 1)
-        unfolding Performs aimOf
-        playing-halted a e =
-            let x : Cell = record { shape = 0; label = label 0; content = record { value = Plain 0; source = label 0 } } in
-            playing-blocked (record { cell = 0; entry = 0 }) (record { cell = rw e refl; entry = refl; inside = omega arith }) x (getD cells 0 x) refl
-            (record { answer = a; job = j; effect = Blocked }) (rw e (record { effect = refl; job = refl; answer = refl })) refl
+            pub acting-launch : (start : ℕ) (child : Job) → start ≡ startIn starts z (length b) → jobOf child ≡ freshJob sources z l s → child .at ≡ start
+                → child .position ≡ 0 → child .block ≡ z → Playing b c shapes offsets starts list room-cells room-jobs before (set now at a) cells n (set jobs m child) (m + 1) p (at + 1)
+            unfolding stateOf
+            acting-launch start child st ec′ ea′ ep′ eb′ =
+                acted cells n (set jobs m child) (m + 1) (w .cells-fit)
+                (rw d
+                (holds-launch b (w .going .state) cells n jobs m (w .going .holds) z l s child acting-free ec′
+                (placed-fresh b (w .setting .readable) starts (w .setting .starts-are) child z eb′ ep′ (ea′ ∙ st))))
 
 pub ruleset plays = (
   playing-start,
@@ -225,15 +335,26 @@ pub ruleset plays = (
   playing-begun,
   playing-end,
   playing-fit,
+  playing-entry,
+  playing-few,
   playing-fits,
   playing-falls,
-  playing-blocked,
-  playing-halted,
-  playing-keep,
-  playing-store,
   playing-past,
-  playing-room,
+  playing-over,
+  playing-next,
+  playing-blocked,
+  playing-give,
+  playing-lower,
+  playing-store,
   playing-create,
-  playing-free,
   playing-launch,
+  playing-none,
+  acting-blocked,
+  acting-give,
+  acting-lower,
+  acting-store,
+  acting-room,
+  acting-create,
+  acting-free,
+  acting-launch,
 )

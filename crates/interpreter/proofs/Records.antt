@@ -18,7 +18,9 @@ use Rattle.machine.specs.Images.{tracedImage, cellImage, jobImage}
 use Rattle.machine.specs.Records.{kindOf, numberOf, ValueRecord, CellRecord, JobRecord, valueRecord, cellRecord, jobRecord}
 use Rattle.acts.specs.declared.Cell.{Cell}
 use Rattle.acts.specs.declared.Job.{Job}
+use Rattle.acts.specs.declared.Stored.{Stored}
 use Rattle.acts.specs.Views.{storedOf, cellOf, jobOf}
+use Rattle.acts.proofs.Acting.{number-is}
 use Rattle.tables.specs.Bytes.{storedRecord, cellRecordIn, jobRecordOf, cellTable, jobTable, savedCells, savedJobs}
 
 -- a map by way of another
@@ -35,17 +37,21 @@ cellBy K c = record { shape = c .shape; trust = trustOf K (c .shape); label = c 
 abbrev jobBy : States.Job Label → JobRecord
 jobBy j = record { block = j .block; position = j .position; label = j .label; registers = map valueBy (j .registers); source = j .history }
 
+stored-is : (v : Stored) → storedRecord v ≡ valueBy (storedOf v)
+stored-is v = rw (number-is (v .kind) (v .number)) refl
+
 pub saved-cells : (K : Book) (shapes : List ℕ) (l : List Cell) (hs : List (States.Cell History))
     → ((i : ℕ) → shapeIn shapes i ≡ getD (K .shapes) i noShape) → map cellOf l ≡ map (cellImage source) hs
     → savedCells shapes l ≡ cellTable (map (cellRecord K) hs)
 unfolding savedCells
 saved-cells K shapes l hs are e =
     ap cellTable
-    (through cellOf (cellBy K) (cellRecordIn shapes) (λ c. ap (λ (x : Shape). record { shape = c .shape; trust = x .trust; label = c .label; value = storedRecord (c .content) }) (are (c .shape))) l ∙ ap (map (cellBy K)) e
+    (through cellOf (cellBy K) (cellRecordIn shapes) (λ c. ap (λ (x : Shape). record { shape = c .shape; trust = x .trust; label = c .label; value = storedRecord (c .content) }) (are (c .shape))
+    ∙ ap (λ (v : ValueRecord). record { shape = c .shape; trust = trustOf K (c .shape); label = c .label; value = v }) (stored-is (c .content))) l ∙ ap (map (cellBy K)) e
     ∙ sym (through (cellImage source) (cellBy K) (cellRecord K) (λ c. refl) hs))
 
 job-is : (j : Job) → jobRecordOf j ≡ jobBy (jobOf j)
-job-is j = rw (through storedOf valueBy storedRecord (λ v. refl) (j .registers)) refl
+job-is j = rw (through storedOf valueBy storedRecord stored-is (j .registers)) refl
 
 job-image : (j : States.Job History) → jobRecord j ≡ jobBy (jobImage source j)
 job-image j = rw (through (tracedImage source) valueBy valueRecord (λ v. refl) (j .registers)) refl

@@ -25,6 +25,7 @@ use Rattle.book.specs.Asked.{Whole}
 use Rattle.machine.specs.States.{State}
 use Rattle.machine.specs.Histories.{sources}
 use Rattle.machine.specs.Acts.{freshJob}
+use Rattle.machine.specs.Records.{kindOf, numberOf}
 use Rattle.machine.specs.Events.{launchLabel, blockOf, freshState}
 use Rattle.events.specs.Bytes.{eventsIn, unplayable}
 use Rattle.acts.specs.declared.Cell.{Cell}
@@ -60,7 +61,7 @@ startIn starts x end = if ltb x (length starts) then getD starts x 0 else end
 
 -- a declared cell, as the run holds it: "Declared values have history 15."
 abbrev pub openedBy : Declared → Cell
-openedBy d = record { shape = d .shape; label = d .label; content = record { value = d .value; source = label 15 } }
+openedBy d = record { shape = d .shape; label = d .label; content = record { number = numberOf (d .value); kind = kindOf (d .value); source = label 15 } }
 
 unfoldable pub openedCells : List ℕ → List ℕ → List Cell
 openedCells b os = map (λ o. openedBy (declaredAt b o)) os

@@ -11,7 +11,28 @@ ghost use mathlib.Core.Path.{_≡_};
 ghost use Prim.Native.Nat.{_≤_};
 ghost use lib.ListN.{length, take};
 ghost use Rattle.book.specs.Asked.{Listed};
+ghost use Rattle.machine.specs.Records.{kindOf, numberOf};
 ghost use Rattle.interpreter.specs.Loop.{openedBy, openedCells, First};
+
+fn kind_in(v: Value) -> u8
+    ensures { λ r. ⌜ r ≡ kindOf v ⌝ }
+{
+    match v {
+        Value::Plain(_) => 0,
+        Value::CellName(_) => 1,
+        Value::CodeName(_) => 2,
+    }
+}
+
+fn number_in(v: Value) -> u32
+    ensures { λ r. ⌜ r ≡ numberOf v ⌝ }
+{
+    match v {
+        Value::Plain(n) => n,
+        Value::CellName(k) => k,
+        Value::CodeName(b) => b,
+    }
+}
 
 // A declared cell: its value's history is 15.
 fn open_cell(d: Declared) -> Cell
@@ -19,13 +40,16 @@ fn open_cell(d: Declared) -> Cell
 {
     let label = d.label;
     let value = d.value;
+    let kind = kind_in(value);
+    let number = number_in(value);
     Cell {
-        shape: d.shape,
-        label: label,
         content: Stored {
-            value: value,
+            number: number,
+            kind: kind,
             source: Label(Job::TOP_LABEL),
         },
+        shape: d.shape,
+        label: label,
     }
 }
 
@@ -35,12 +59,13 @@ pub fn open_cells(book: &[u8], offsets: &[u16]) -> [Cell; Job::TABLE_SIZE]
     ensures { λ r. ⌜ take (length (now (offsets .entry))) r ≡ openedCells (now (book .entry)) (now (offsets .entry)) ⌝ }
 {
     let none = Cell {
-        shape: 0,
-        label: Label(0),
         content: Stored {
-            value: Value::Plain(0),
+            number: 0,
+            kind: 0,
             source: Label(0),
         },
+        shape: 0,
+        label: Label(0),
     };
     let mut cells = [none; Job::TABLE_SIZE];
     let mut i: usize = 0;
@@ -59,6 +84,7 @@ pub fn open_cells(book: &[u8], offsets: &[u16]) -> [Cell; Job::TABLE_SIZE]
 // Job 0: block 0 at its bound, its history that bound. It is read back from an array at an index that the compiler does not know, so that
 // the table is filled with whole jobs; field by field that took a fifth of a short run.
 pub fn open_job(starts: &[u16], bound: Label, end: usize) -> Job
+    requires { ⌜ end ≤ 65535 ⌝ }
     ensures { λ r. ⌜ First (now (starts .entry)) bound end r ⌝ }
 {
     let at = play::start_of(starts, 0, end);

@@ -5,14 +5,16 @@ use mathlib.Core.List.{List, [], _∷_}
 use Prim.Native.Nat.{ℕ, _%_, _/_}
 use lib.ListN.{getD}
 use Rattle.labels.specs.declared.Trust.{Trust}
-use Rattle.machine.specs.Records.{kindOf, numberOf}
+use Rattle.machine.specs.Records.{kindOf}
 use Rattle.acts.specs.declared.Stored.{Stored}
 use Rattle.acts.specs.declared.Cell.{Cell}
+use Rattle.acts.specs.Views.{valueIn}
 use Rattle.tables.specs.Bytes.{valueBytes, cellBytes, storedRecord, trustedRecord}
 
-pub value-is : (v : Stored) (k n : ℕ) → k ≡ kindOf (v .value) → n ≡ numberOf (v .value)
-    → k ∷ n % 256 ∷ n / 256 % 256 ∷ n / 65536 % 256 ∷ n / 16777216 % 256 ∷ v .source .0 ∷ [] ≡ valueBytes (storedRecord v)
-value-is v k n ek en = rw (ek, en) refl
+pub value-is : (v : Stored) (k : ℕ) → k ≡ kindOf (valueIn v)
+    → k ∷ v .number % 256 ∷ v .number / 256 % 256 ∷ v .number / 65536 % 256 ∷ v .number / 16777216 % 256 ∷ v .source .0 ∷ []
+    ≡ valueBytes (storedRecord v)
+value-is v k e = rw e refl
 
 pub cell-is : (t : Trust) (c : Cell) (b : List ℕ) → b ≡ valueBytes (storedRecord (c .content))
     → c .shape ∷ t .0 ∷ c .label .0 ∷ getD b 0 0 ∷ getD b 1 0 ∷ getD b 2 0 ∷ getD b 3 0 ∷ getD b 4 0 ∷ getD b 5 0 ∷ []

@@ -8,10 +8,11 @@ use Prim.Native.Nat.{ℕ, _%_, _/_}
 use mathlib.Core.List.{List, [], _∷_, _++_, map}
 use Rattle.labels.specs.declared.Trust.{Trust}
 use Rattle.book.specs.Outline.{pad, shapeIn}
-use Rattle.machine.specs.Records.{kindOf, numberOf, ValueRecord, CellRecord, JobRecord}
+use Rattle.machine.specs.Records.{kindOf, ValueRecord, CellRecord, JobRecord}
 use Rattle.acts.specs.declared.Stored.{Stored}
 use Rattle.acts.specs.declared.Cell.{Cell}
 use Rattle.acts.specs.declared.Job.{Job}
+use Rattle.acts.specs.Views.{valueIn}
 
 -- "a number is 4 bytes, little-endian"
 abbrev pub numberBytes : ℕ → List ℕ
@@ -45,7 +46,7 @@ jobTable jobs = pad 3328 0 (packed jobBytes jobs)
 
 -- the records of the code's values, cells and jobs
 abbrev pub storedRecord : Stored → ValueRecord
-storedRecord v = record { kind = kindOf (v .value); number = numberOf (v .value); source = v .source }
+storedRecord v = record { kind = kindOf (valueIn v); number = v .number; source = v .source }
 
 abbrev pub trustedRecord : Trust → Cell → CellRecord
 trustedRecord t c = record { shape = c .shape; trust = t; label = c .label; value = storedRecord (c .content) }

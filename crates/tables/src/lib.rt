@@ -2,12 +2,10 @@
 use acts::Cell;
 use acts::Job;
 use acts::Stored;
-use book::Value;
 use labels::Trust;
 ghost use mathlib.Core.Path.{_≡_};
 ghost use Prim.Native.Nat.{_+_, _≤_};
 ghost use lib.ListN.{length, take};
-ghost use Rattle.machine.specs.Records.{kindOf};
 ghost use Rattle.tables.specs.Bytes.{valueBytes, cellBytes, jobBytes, storedRecord, trustedRecord, jobRecordOf, savedCells, savedJobs};
 ghost use Rattle.tables.specs.Asked.{put, cleared, Narrow, NarrowJobs};
 
@@ -31,23 +29,12 @@ fn clear_from(dst: &mut [u8], at: usize)
     }
 }
 
-fn kind_of(v: Value) -> u8
-    ensures { λ r. ⌜ r ≡ kindOf v ⌝ }
-{
-    match v {
-        Value::Plain(_) => 0,
-        Value::CellName(_) => 1,
-        Value::CodeName(_) => 2,
-    }
-}
-
 // Kind, number, source.
 fn value_bytes(v: Stored) -> [u8; 6]
     ensures { λ r. ⌜ r ≡ valueBytes (storedRecord v) ⌝ }
 {
-    let value = v.value;
-    let kind = kind_of(value);
-    let n = acts::number_of(value);
+    let kind = acts::kind_of(v);
+    let n = v.number;
     [
         kind,
         (n % 256) as u8,

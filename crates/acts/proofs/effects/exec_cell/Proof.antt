@@ -7,15 +7,6 @@ use Rattle.acts.proofs.effects.exec_cell.Tie as tie
 returns : tie.Need-returns
 returns c = search (execs, needs)
 
-block-named-requires : tie.Need-block-named-requires
-block-named-requires c κs = search needs
-
-enum-known-b : tie.Need-enum-known-b
-enum-known-b c = search needs
-
-enum-told : tie.Need-enum-told
-enum-told c = search needs
-
 returns-2 : tie.Need-returns-2
 returns-2 c = search (execs, needs)
 
@@ -39,9 +30,6 @@ exec-cell-spec =
     tie.close
     (tie.spec
     returns
-    block-named-requires
-    enum-known-b
-    enum-told
     returns-2
     returns-3
     lower-of-requires

@@ -1,6 +1,6 @@
 -- `registers::moved` meets its contract. Assumes nothing.
 use borrow.Author.Needs.{needs}
-use Rattle.acts.proofs.Values.{values}
+use Rattle.acts.proofs.Values.{changes}
 use Rattle.acts.proofs.registers.moved.Statement.{statement}
 use Rattle.acts.proofs.registers.moved.Tie as tie
 
@@ -8,7 +8,7 @@ add-t : tie.Need-add-t
 add-t c = search needs
 
 returns : tie.Need-returns
-returns c = search (values, needs)
+returns c = search (changes, needs)
 
 pub moved-spec : {M : Type 1} → statement M
 moved-spec = tie.close (tie.spec add-t returns)

@@ -10,32 +10,8 @@ register-of-requires c κs = search needs
 register-of-requires-2 : tie.Need-register-of-requires-2
 register-of-requires-2 c κs = search needs
 
-plain-number-requires : tie.Need-plain-number-requires
-plain-number-requires c κs = search needs
-
-enum-known-x : tie.Need-enum-known-x
-enum-known-x c = search needs
-
-enum-told : tie.Need-enum-told
-enum-told c = search needs
-
-stay-requires : tie.Need-stay-requires
-stay-requires c κs = search needs
-
 returns : tie.Need-returns
 returns c = search (adds, needs)
-
-plain-number-requires-2 : tie.Need-plain-number-requires-2
-plain-number-requires-2 c κs = search needs
-
-enum-known-y : tie.Need-enum-known-y
-enum-known-y c = search needs
-
-enum-told-2 : tie.Need-enum-told-2
-enum-told-2 c = search needs
-
-stay-requires-2 : tie.Need-stay-requires-2
-stay-requires-2 c κs = search needs
 
 returns-2 : tie.Need-returns-2
 returns-2 c = search (adds, needs)
@@ -49,9 +25,6 @@ lower-of-requires c κs = search needs
 lower-of-requires-2 : tie.Need-lower-of-requires-2
 lower-of-requires-2 c κs = search needs
 
-gets-requires : tie.Need-gets-requires
-gets-requires c κs = search needs
-
 returns-3 : tie.Need-returns-3
 returns-3 c = search (adds, needs)
 
@@ -61,18 +34,9 @@ add-spec =
     (tie.spec
     register-of-requires
     register-of-requires-2
-    plain-number-requires
-    enum-known-x
-    enum-told
-    stay-requires
     returns
-    plain-number-requires-2
-    enum-known-y
-    enum-told-2
-    stay-requires-2
     returns-2
     add-numbers-requires
     lower-of-requires
     lower-of-requires-2
-    gets-requires
     returns-3)

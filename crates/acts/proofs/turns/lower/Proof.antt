@@ -10,19 +10,11 @@ reaches-requires c κs = search needs
 lower-of-requires : tie.Need-lower-of-requires
 lower-of-requires c κs = search needs
 
-moved-requires : tie.Need-moved-requires
-moved-requires c κs = search needs
-
 returns : tie.Need-returns
 returns c = search (lowers, needs)
-
-stay-requires : tie.Need-stay-requires
-stay-requires c κs = search needs
 
 returns-2 : tie.Need-returns-2
 returns-2 c = search (lowers, needs)
 
 pub lower-spec : {M : Type 1} → statement M
-lower-spec =
-    tie.close
-    (tie.spec reaches-requires lower-of-requires moved-requires returns stay-requires returns-2)
+lower-spec = tie.close (tie.spec reaches-requires lower-of-requires returns returns-2)

@@ -7,12 +7,6 @@ use Rattle.acts.proofs.turns.new.Tie as tie
 register-of-requires : tie.Need-register-of-requires
 register-of-requires c κs = search needs
 
-cast-t10 : tie.Need-cast-t10
-cast-t10 c = search needs
-
-gets-requires : tie.Need-gets-requires
-gets-requires c κs = search needs
-
 make-cell-requires : tie.Need-make-cell-requires
 make-cell-requires c κs = search needs
 
@@ -20,5 +14,4 @@ returns : tie.Need-returns
 returns c = search (new-is, needs)
 
 pub new-spec : {M : Type 1} → statement M
-new-spec =
-    tie.close (tie.spec register-of-requires cast-t10 gets-requires make-cell-requires returns)
+new-spec = tie.close (tie.spec register-of-requires make-cell-requires returns)

@@ -1,32 +1,23 @@
 -- `turns::take_step` meets its contract. Assumes nothing.
 use borrow.Author.Needs.{needs}
-use Rattle.acts.proofs.Taking.{takes}
+use Rattle.acts.proofs.Taking.{dispatches}
 use Rattle.acts.proofs.turns.take_step.Statement.{statement}
 use Rattle.acts.proofs.turns.take_step.Tie as tie
 
 enum-known-p : tie.Need-enum-known-p
 enum-known-p c = search needs
 
-give-requires : tie.Need-give-requires
-give-requires c κs = search needs
-
 enum-known-p-2 : tie.Need-enum-known-p-2
 enum-known-p-2 c = search needs
-
-cast-t27 : tie.Need-cast-t27
-cast-t27 c = search needs
-
-give-requires-2 : tie.Need-give-requires-2
-give-requires-2 c κs = search needs
-
-enum-known-p-3 : tie.Need-enum-known-p-3
-enum-known-p-3 c = search needs
 
 cast-t29 : tie.Need-cast-t29
 cast-t29 c = search needs
 
-give-requires-3 : tie.Need-give-requires-3
-give-requires-3 c κs = search needs
+enum-known-p-3 : tie.Need-enum-known-p-3
+enum-known-p-3 c = search needs
+
+cast-t31 : tie.Need-cast-t31
+cast-t31 c = search needs
 
 enum-known-p-4 : tie.Need-enum-known-p-4
 enum-known-p-4 c = search needs
@@ -67,8 +58,11 @@ lower-requires c κs = search needs
 enum-known-p-10 : tie.Need-enum-known-p-10
 enum-known-p-10 c = search needs
 
-start-requires : tie.Need-start-requires
-start-requires c κs = search needs
+cast-start-job : tie.Need-cast-start-job
+cast-start-job c = search needs
+
+start-job-requires : tie.Need-start-job-requires
+start-job-requires c κs = search needs
 
 enum-known-p-11 : tie.Need-enum-known-p-11
 enum-known-p-11 c = search needs
@@ -77,50 +71,47 @@ exec-requires : tie.Need-exec-requires
 exec-requires c κs = search needs
 
 returns : tie.Need-returns
-returns c = search takes
+returns c = search (dispatches, needs)
 
 returns-2 : tie.Need-returns-2
-returns-2 c = search takes
+returns-2 c = search (dispatches, needs)
 
 returns-3 : tie.Need-returns-3
-returns-3 c = search takes
+returns-3 c = search (dispatches, needs)
 
 returns-4 : tie.Need-returns-4
-returns-4 c = search takes
+returns-4 c = search (dispatches, needs)
 
 returns-5 : tie.Need-returns-5
-returns-5 c = search takes
+returns-5 c = search (dispatches, needs)
 
 returns-6 : tie.Need-returns-6
-returns-6 c = search takes
+returns-6 c = search (dispatches, needs)
 
 returns-7 : tie.Need-returns-7
-returns-7 c = search takes
+returns-7 c = search (dispatches, needs)
 
 returns-8 : tie.Need-returns-8
-returns-8 c = search takes
+returns-8 c = search (dispatches, needs)
 
 returns-9 : tie.Need-returns-9
-returns-9 c = search takes
+returns-9 c = search (dispatches, needs)
 
 returns-10 : tie.Need-returns-10
-returns-10 c = search takes
+returns-10 c = search (dispatches, needs)
 
 returns-11 : tie.Need-returns-11
-returns-11 c = search takes
+returns-11 c = search (dispatches, needs)
 
 pub take-step-spec : {M : Type 1} → statement M
 take-step-spec =
     tie.close
     (tie.spec
     enum-known-p
-    give-requires
     enum-known-p-2
-    cast-t27
-    give-requires-2
-    enum-known-p-3
     cast-t29
-    give-requires-3
+    enum-known-p-3
+    cast-t31
     enum-known-p-4
     add-requires
     enum-known-p-5
@@ -134,7 +125,8 @@ take-step-spec =
     enum-known-p-9
     lower-requires
     enum-known-p-10
-    start-requires
+    cast-start-job
+    start-job-requires
     enum-known-p-11
     exec-requires
     returns

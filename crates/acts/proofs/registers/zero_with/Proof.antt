@@ -1,0 +1,11 @@
+-- `registers::zero_with` meets its contract. Assumes nothing.
+use borrow.Author.Needs.{needs}
+use Rattle.acts.proofs.Values.{values}
+use Rattle.acts.proofs.registers.zero_with.Statement.{statement}
+use Rattle.acts.proofs.registers.zero_with.Tie as tie
+
+returns : tie.Need-returns
+returns c = search (values, needs)
+
+pub zero-with-spec : {M : Type 1} → statement M
+zero-with-spec = tie.close (tie.spec returns)
