@@ -1,16 +1,23 @@
 //! Times of whole runs.
 
 use crate::timing::{self, Times};
+use reference::book::PLAIN_VALUE;
 use reference::machine::{event, fast, Runner};
 use reference::runs::{answer::outcome, Run};
 use reference::{full_book, mixed_book};
 use std::hint::black_box;
+
+/// Book A with a job at 8, below the label of the cell that it writes.
+const BOOK_A2: &[u8] = include_bytes!("../../books/a2.book");
 
 /// A book for one option, 95 bytes, which the check accepts. Vol, rate and hedge are official cells,
 /// of trust 9, and a fourth cell is scratch, of trust 2. Block 0 reads vol and rate, adds both and a
 /// constant, writes the hedge, lowers itself to 2, and starts block 1, of bound 2, which writes the
 /// scratch cell.
 const OPTION_BOOK: &[u8] = include_bytes!("../option.book");
+
+/// The scratch cell's number.
+const SCRATCH: u8 = 3;
 
 /// 20 events: the steps of both blocks and some more, three writes by outsiders, the last of them to
 /// the hedge and blocked, and a relabel of the scratch cell.
@@ -21,6 +28,9 @@ const ROUNDS: [usize; 4] = [8, 16, 32, 64];
 
 /// As many as a list of 65,536 bytes has room for, behind the events that start the jobs.
 pub const LONGEST_ROUNDS: usize = 510;
+
+/// As many outsiders' writes, of 8 bytes, as such a list has room for.
+const MOST_WRITES: u32 = 8_192;
 
 pub fn time(book_a: &[u8]) {
     println!("run            events    done   verified us  reference us   ratio");
@@ -33,9 +43,16 @@ pub fn time(book_a: &[u8]) {
         "A1, longest",
         &Run::new(book_a.to_vec(), [80, 0].repeat(32_768)),
     );
+    // A step that is blocked: the third, a write, is tried by all events but two.
+    time_run(
+        "A2, longest",
+        &Run::new(BOOK_A2.to_vec(), [80, 0].repeat(32_768)),
+    );
     time_run("mixed", &mixed(64));
     time_run("mixed, longest", &mixed(LONGEST_ROUNDS));
     time_run("full, longest", &turns(full_book(), LONGEST_ROUNDS));
+    // Acts of outsiders that are done: events of 8 bytes are read, and each changes a cell.
+    time_run("writes", &writes(MOST_WRITES));
 
     println!();
     println!("mixed with a number of rounds, nanoseconds for each event, the reading of the book included");
@@ -106,4 +123,15 @@ fn turns(book: Vec<u8>, rounds: usize) -> Run {
     let begin = (0..63u8).flat_map(|block| [85, block % 4, block]);
     let turns = (0..rounds).flat_map(|_| (0..64u8).flat_map(|job| [80, job]));
     Run::new(book, begin.chain(turns).collect())
+}
+
+/// Outsiders at 2 and at 3, which is C, take turns to write another number to the scratch cell of
+/// `OPTION_BOOK`. Its label is 2, so every write is done.
+fn writes(count: u32) -> Run {
+    let events = (0..count).flat_map(|turn| {
+        let (q, number) = (2 + (turn % 2) as u8, turn.wrapping_mul(1_048_583));
+        let [n0, n1, n2, n3] = number.to_le_bytes();
+        [event::WRITE, q, SCRATCH, PLAIN_VALUE, n0, n1, n2, n3]
+    });
+    Run::new(OPTION_BOOK.to_vec(), events.collect())
 }
