@@ -1,6 +1,8 @@
 //! Times of whole runs.
 
-use crate::timing::{self, Times};
+use crate::sides::RUNNERS;
+use crate::timing::{self, Times, COLUMNS, COLUMNS_PER};
+use crate::BOOK_A;
 use reference::book::PLAIN_VALUE;
 use reference::machine::{event, fast, Runner};
 use reference::runs::{answer::outcome, Run};
@@ -23,78 +25,68 @@ const SCRATCH: u8 = 3;
 /// the hedge and blocked, and a relabel of the scratch cell.
 const OPTION_EVENTS: &[u8] = include_bytes!("../option.events");
 
+/// The rows: a name, and the run.
+pub const ROWS: [(&str, fn() -> Run); 8] = [
+    ("A1", || steps(BOOK_A, 4)),
+    ("one option", one_option),
+    // A job with no step left.
+    ("A1, longest", || steps(BOOK_A, MOST_STEPS)),
+    // A step that is blocked: the third, a write, is tried by all events but two.
+    ("A2, longest", || steps(BOOK_A2, MOST_STEPS)),
+    ("mixed", || mixed(64)),
+    ("mixed, longest", || mixed(LONGEST_ROUNDS)),
+    ("full, longest", || turns(full_book(), LONGEST_ROUNDS)),
+    // Acts of outsiders that are done: events of 8 bytes are read, and each changes a cell.
+    ("writes", || writes(MOST_WRITES)),
+];
+
 /// How often each of the 64 jobs of `mixed` is asked for a step.
 const ROUNDS: [usize; 4] = [8, 16, 32, 64];
 
 /// As many as a list of 65,536 bytes has room for, behind the events that start the jobs.
 pub const LONGEST_ROUNDS: usize = 510;
 
-/// As many outsiders' writes, of 8 bytes, as such a list has room for.
+/// As many steps, of 2 bytes, and outsiders' writes, of 8, as such a list has room for.
+pub const MOST_STEPS: usize = 32_768;
 const MOST_WRITES: u32 = 8_192;
 
-pub fn time(book_a: &[u8]) {
-    println!("run            events    done   verified us  reference us   ratio");
-    time_run("A1", &Run::new(book_a.to_vec(), [80, 0].repeat(4)));
-    time_run(
-        "one option",
-        &Run::new(OPTION_BOOK.to_vec(), OPTION_EVENTS.to_vec()),
-    );
-    time_run(
-        "A1, longest",
-        &Run::new(book_a.to_vec(), [80, 0].repeat(32_768)),
-    );
-    // A step that is blocked: the third, a write, is tried by all events but two.
-    time_run(
-        "A2, longest",
-        &Run::new(BOOK_A2.to_vec(), [80, 0].repeat(32_768)),
-    );
-    time_run("mixed", &mixed(64));
-    time_run("mixed, longest", &mixed(LONGEST_ROUNDS));
-    time_run("full, longest", &turns(full_book(), LONGEST_ROUNDS));
-    // Acts of outsiders that are done: events of 8 bytes are read, and each changes a cell.
-    time_run("writes", &writes(MOST_WRITES));
+/// Prints the tables. The worst ratio of the rows.
+pub fn time() -> f64 {
+    println!("run            events    done{COLUMNS}");
+    let ratios = ROWS.map(|(name, run)| time_run(name, &run()));
 
     println!();
     println!("mixed with a number of rounds, nanoseconds for each event, the reading of the book included");
-    println!("rounds        events      verified     reference");
+    println!("rounds        events{COLUMNS_PER}");
     for rounds in ROUNDS {
         time_rounds(rounds, &mixed(rounds));
     }
+    ratios.into_iter().fold(0.0, f64::max)
 }
 
-fn time_run(name: &str, run: &Run) {
+fn time_run(name: &str, run: &Run) -> f64 {
     let times = compare(run);
-    let ratio = times.verified / times.reference;
-    println!(
-        "{name:<15}{:>6}{:>8}{:>14.3}{:>14.3}{ratio:>8.2}",
-        count(run),
-        done(run),
-        times.verified,
-        times.reference
-    );
+    println!("{name:<15}{:>6}{:>8}{times}", count(run), done(run));
+    times.ratio
 }
 
 fn time_rounds(rounds: usize, run: &Run) {
     let times = compare(run);
-    let per_event = |microseconds: f64| microseconds * 1e3 / count(run) as f64;
-    println!(
-        "{rounds:<12}{:>8}{:>14.3}{:>14.3}",
-        count(run),
-        per_event(times.verified),
-        per_event(times.reference)
-    );
+    println!("{rounds:<12}{:>8}{}", count(run), times.per(count(run)));
 }
 
 /// Both sides must run it, and leave the same bytes.
 fn compare(run: &Run) -> Times {
     let expected = outcome(fast::run, run);
     assert!(expected.0.is_ok(), "{:?}", expected.0);
-    assert_eq!(outcome(verified::run, run), expected);
-    timing::compare(call(verified::run, run), call(fast::run, run))
+    for runner in RUNNERS {
+        assert_eq!(outcome(runner, run), expected);
+    }
+    timing::compare(RUNNERS.map(|runner| call(runner, run)))
 }
 
-/// A call on buffers of its own.
-fn call(runner: Runner, run: &Run) -> impl FnMut() + '_ {
+/// A call of a side, on buffers of its own.
+pub fn call(runner: Runner, run: &Run) -> impl FnMut() + '_ {
     let mut lent = run.lengths.map(|length| vec![0; length]);
     move || {
         let (book, events) = black_box((&run.book, &run.events));
@@ -103,7 +95,7 @@ fn call(runner: Runner, run: &Run) -> impl FnMut() + '_ {
     }
 }
 
-fn count(run: &Run) -> usize {
+pub fn count(run: &Run) -> usize {
     event::split(&run.events).map_or(0, |events| events.len())
 }
 
@@ -111,6 +103,15 @@ fn count(run: &Run) -> usize {
 fn done(run: &Run) -> usize {
     let (_, [_, _, answers]) = outcome(fast::run, run);
     answers.iter().filter(|answer| **answer == 0).count()
+}
+
+/// Job 0 is asked for so many steps.
+pub fn steps(book: &[u8], count: usize) -> Run {
+    Run::new(book.to_vec(), [event::STEP, 0].repeat(count))
+}
+
+fn one_option() -> Run {
+    Run::new(OPTION_BOOK.to_vec(), OPTION_EVENTS.to_vec())
 }
 
 /// The largest book with steps of all kinds. Most of its jobs are soon blocked.

@@ -4,22 +4,22 @@
 
 mod thread;
 
-use crate::runs::{mixed, LONGEST_ROUNDS};
+use crate::runs::{mixed, steps, LONGEST_ROUNDS, MOST_STEPS};
+use crate::BOOK_A;
 use reference::runs::Run;
 use reference::{full_book, mixed_book};
 use std::hint::black_box;
 use thread::stack_used;
 
-pub fn measure(book_a: &[u8]) {
+pub fn measure() {
     println!("call   input         events   stack bytes");
-    measure_check("A1", book_a);
+    measure_check("A1", BOOK_A);
     measure_check("mixed_book", &mixed_book());
     measure_check("full_book", &full_book());
-    let longest = [80, 0].repeat(32_768);
-    measure_run("A1", &Run::new(book_a.to_vec(), [80, 0].repeat(4)));
-    measure_run("A1", &Run::new(book_a.to_vec(), longest.clone()));
+    measure_run("A1", &steps(BOOK_A, 4));
+    measure_run("A1", &steps(BOOK_A, MOST_STEPS));
     measure_run("mixed", &mixed(LONGEST_ROUNDS));
-    measure_run("full_book", &Run::new(full_book(), longest));
+    measure_run("full_book", &steps(&full_book(), MOST_STEPS));
 }
 
 fn measure_check(name: &str, book: &[u8]) {

@@ -1,5 +1,6 @@
 //! The time of one call, on two sides that take turns.
 
+use std::fmt;
 use std::time::{Duration, Instant};
 
 const ROUNDS: usize = 301;
@@ -7,32 +8,59 @@ const ROUNDS: usize = 301;
 /// A sample is as many calls as take at least this long.
 const SAMPLE: Duration = Duration::from_micros(500);
 
-/// The median time of a call on each side, in microseconds.
+/// Medians of all rounds: the time of a call on each side, in microseconds, and the ratio of the two
+/// times of one round, the verified to the reference's. What else the machine does slows the samples
+/// of a round alike, so that their ratio is steadier than they are.
 pub struct Times {
-    pub verified: f64,
-    pub reference: f64,
+    verified: f64,
+    reference: f64,
+    pub ratio: f64,
 }
 
-/// Times a call of each side. Each round takes a sample of both; the side that goes first
-/// alternates.
-pub fn compare(verified: impl FnMut(), reference: impl FnMut()) -> Times {
-    let mut verified = Side::new(verified);
-    let mut reference = Side::new(reference);
+/// The headings of the columns that a `Times` is printed in.
+pub const COLUMNS: &str = "   verified us  reference us   ratio";
+
+impl fmt::Display for Times {
+    fn fmt(&self, out: &mut fmt::Formatter<'_>) -> fmt::Result {
+        write!(
+            out,
+            "{:>14.3}{:>14.3}{:>8.2}",
+            self.verified, self.reference, self.ratio
+        )
+    }
+}
+
+/// The headings of the columns of `Times::per`.
+pub const COLUMNS_PER: &str = "      verified     reference";
+
+impl Times {
+    /// The times in nanoseconds for each of so many units.
+    pub fn per(&self, units: usize) -> String {
+        let times = [self.verified, self.reference];
+        times
+            .map(|microseconds| format!("{:>14.3}", microseconds * 1e3 / units as f64))
+            .concat()
+    }
+}
+
+/// Times a call of each side: verified, reference. Each round takes a sample of both; the other side
+/// goes first in the next.
+pub fn compare<F: FnMut()>(calls: [F; 2]) -> Times {
+    let mut sides = calls.map(Side::new);
     for round in 0..ROUNDS {
-        if round % 2 == 0 {
-            verified.sample();
-            reference.sample();
-        } else {
-            reference.sample();
-            verified.sample();
+        for turn in 0..2 {
+            sides[(round + turn) % 2].sample();
         }
     }
+    let [verified, reference] = sides.map(|side| side.samples);
     Times {
-        verified: verified.median(),
-        reference: reference.median(),
+        ratio: median(ratios(&verified, &reference)),
+        verified: median(verified),
+        reference: median(reference),
     }
 }
 
+/// A side and its samples, one for each round.
 struct Side<F> {
     call: F,
     calls: u32,
@@ -58,11 +86,6 @@ impl<F: FnMut()> Side<F> {
         self.samples
             .push(elapsed.as_secs_f64() * 1e6 / f64::from(self.calls));
     }
-
-    fn median(&mut self) -> f64 {
-        self.samples.sort_by(f64::total_cmp);
-        self.samples[self.samples.len() / 2]
-    }
 }
 
 fn time(mut call: impl FnMut(), calls: u32) -> Duration {
@@ -71,4 +94,15 @@ fn time(mut call: impl FnMut(), calls: u32) -> Duration {
         call();
     }
     start.elapsed()
+}
+
+/// The ratio in each round.
+fn ratios(times: &[f64], reference: &[f64]) -> Vec<f64> {
+    let rounds = times.iter().zip(reference);
+    rounds.map(|(time, reference)| time / reference).collect()
+}
+
+fn median(mut samples: Vec<f64>) -> f64 {
+    samples.sort_by(f64::total_cmp);
+    samples[samples.len() / 2]
 }
