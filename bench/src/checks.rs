@@ -42,7 +42,7 @@ fn time_cut(blocks: usize, book: &[u8]) {
     println!("{blocks:<12}{:>8}{}", book.len(), times.per(book.len()));
 }
 
-/// Both sides must accept the book, with the same counts.
+/// All sides must accept the book, with the same counts.
 fn compare(book: &[u8]) -> Times {
     let expected = reference::check(book);
     assert!(matches!(expected, Verdict::Accepted { .. }), "{expected}");

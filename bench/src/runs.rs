@@ -75,7 +75,7 @@ fn time_rounds(rounds: usize, run: &Run) {
     println!("{rounds:<12}{:>8}{}", count(run), times.per(count(run)));
 }
 
-/// Both sides must run it, and leave the same bytes.
+/// All sides must run it, and leave the same bytes.
 fn compare(run: &Run) -> Times {
     let expected = outcome(fast::run, run);
     assert!(expected.0.is_ok(), "{:?}", expected.0);

@@ -1,11 +1,12 @@
-//! The two sides of a call, in the order of the columns: the verified library and the reference, which
-//! runs on the faster of its two machines.
+//! The three sides of a call, in the order of the columns: the verified library, the reference, the
+//! limit. The reference runs on the faster of its two machines.
 
+use crate::limit;
 use reference::machine::{fast, Runner};
 use reference::Verdict;
 
 pub type Checker = fn(&[u8]) -> Verdict;
 
-pub const CHECKERS: [Checker; 2] = [verified::check, reference::check];
+pub const CHECKERS: [Checker; 3] = [verified::check, reference::check, limit::check];
 
-pub const RUNNERS: [Runner; 2] = [verified::run, fast::run];
+pub const RUNNERS: [Runner; 3] = [verified::run, fast::run, limit::run];
