@@ -5,6 +5,8 @@ use crate::limit;
 use reference::machine::{fast, Runner};
 use reference::Verdict;
 
+pub const SIDES: [&str; 3] = ["verified", "reference", "limit"];
+
 pub type Checker = fn(&[u8]) -> Verdict;
 
 pub const CHECKERS: [Checker; 3] = [verified::check, reference::check, limit::check];
