@@ -16,11 +16,15 @@ impl Label {
     pub const TOP: Label = Label(15);
 
     // The lower of two labels. No label is above 15; the contract holds of any two bytes, so that no caller has to show what it holds.
+    // Of two that are equal the table need not be asked.
     pub fn lower_of(self, other: Label) -> Label
         ensures { λ r. ⌜ r ≡ lower self other ⌝ }
     {
         let row = self.0;
         let column = other.0;
+        if row == column {
+            return self;
+        }
         if row <= 15 {
             if column <= 15 {
                 let at = row as usize * 16 + column as usize;

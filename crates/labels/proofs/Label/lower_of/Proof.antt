@@ -43,6 +43,10 @@ entry a b h k =
     let q : (a * 16 + b) % 16 ≡ b = omega arith in
     rw (p, q) at r
 
+returns : tie.Need-returns
+unfolding lower
+returns c = ap label (omega arith)
+
 cast-at : tie.Need-cast-at
 cast-at c = search needs
 
@@ -58,13 +62,9 @@ add-at c = search needs
 array-read-lower : tie.Need-array-read-lower
 array-read-lower c = search needs
 
-returns : tie.Need-returns
-unfolding lower table
-returns c = ap label (entry _ _ (omega arith) (omega arith))
-
 returns-2 : tie.Need-returns-2
-unfolding lower
-returns-2 c = ap label (omega arith)
+unfolding lower table
+returns-2 c = ap label (entry _ _ (omega arith) (omega arith))
 
 returns-3 : tie.Need-returns-3
 unfolding lower
@@ -74,5 +74,9 @@ returns-4 : tie.Need-returns-4
 unfolding lower
 returns-4 c = ap label (omega arith)
 
+returns-5 : tie.Need-returns-5
+unfolding lower
+returns-5 c = ap label (omega arith)
+
 pub lower-of-spec : {M : Type 1} → statement M
-lower-of-spec = tie.close (tie.spec cast-at mul-at cast-at-2 add-at array-read-lower returns returns-2 returns-3 returns-4)
+lower-of-spec = tie.close (tie.spec returns cast-at mul-at cast-at-2 add-at array-read-lower returns-2 returns-3 returns-4 returns-5)
