@@ -9,7 +9,7 @@ use Prim.Native.Nat.{ℕ, _+_, _-_, _≤_, _<_}
 use native.Mathlib.Omega.{arith}
 use lib.Dec.{eqb, ltb}
 use lib.ListN.{length, replicate}
-use borrow.Author.Tests.{eq-eqb, ne-eqb, lt-ltb, le-ltb}
+use borrow.Author.Tests.{eq-eqb, ne-eqb, lt-ltb, le-ltb, ltb-true, eqb-true}
 use mir.Val.{Fits}
 use mir.Syntax.{w8}
 use Rattle.labels.specs.Labels.{label, trust}
@@ -26,7 +26,8 @@ use Rattle.book.specs.Control.{both}
 use Rattle.book.specs.Kinds.{span, group}
 use Rattle.book.specs.Records.{byteAt, numberAt, next, cut, inGroup}
 use Rattle.book.specs.Book.{shapeAt, valueOf, declaredAt, stepAt}
-use Rattle.book.specs.Stretch.{stands, stepFound, cellFound}
+use Rattle.book.specs.Stretch.{stands, stepFound, stepEnd, cellFound}
+use Rattle.book.proofs.Groups.{is-step}
 use Rattle.book.proofs.Spans.{cut-body, uncut, uncut-span, uncut-inside}
 
 module _ (s : List ℕ) (o : ℕ) where
@@ -165,45 +166,92 @@ module _ (s : List ℕ) (g o : ℕ) where
       stands-whole b n l =
           simp (lt-ltb _ _ h, ← ed, eq-eqb _ _ e, uncut span s o (group-span (byteAt s o) g b (sym ed ∙ e) n) (omega arith))
 
+-- the offset past what stands is not 0
+stood-span : (s : List ℕ) (o : ℕ) → stands s 5 o ≡ true → 0 < next s o
+unfolding both
+stood-span s o e = go (ltb o (length s)) refl (inGroup s 5 o) refl (cut s o) refl
+  where
+    go : (a : Bool) → ltb o (length s) ≡ a → (b : Bool) → inGroup s 5 o ≡ b → (c : Bool) → cut s o ≡ c → 0 < next s o
+    go true h true g false q = omega (arith, uncut-span span s o q)
+    go true h true g true q = let y : false ≡ true = simp (h, g, q) at e in let z : _≡_ {A = ℕ} 0 1 = cc in absurd (omega arith)
+    go true h false g c q = let y : false ≡ true = simp (h, g) at e in let z : _≡_ {A = ℕ} 0 1 = cc in absurd (omega arith)
+    go false h b g c q = let y : false ≡ true = simp h at e in let z : _≡_ {A = ℕ} 0 1 = cc in absurd (omega arith)
+
 module _ (s : List ℕ) (o : ℕ) where
-  no-step : stands s 5 o ≡ false → NoStep ≡ stepFound s o
-  unfolding stepFound
-  no-step e = simp e
+  no-end : stands s 5 o ≡ false → 0 ≡ stepEnd s o
+  unfolding stepEnd
+  no-end e = simp e
 
   no-cell : stands s 3 o ≡ false → NoCell ≡ cellFound s o
   unfolding cellFound
   no-cell e = simp e
 
-  pub step-past : length s ≤ o → NoStep ≡ stepFound s o
-  step-past h = no-step (stands-past s 5 o h)
+  pub end-past : length s ≤ o → 0 ≡ stepEnd s o
+  end-past h = no-end (stands-past s 5 o h)
 
   pub cell-past : length s ≤ o → NoCell ≡ cellFound s o
   cell-past h = no-cell (stands-past s 3 o h)
 
   module _ (d : ℕ) (h : o < length s) (ed : d ≡ group (byteAt s o)) where
-    pub step-other : (d ≡ 5 → ⊥) → NoStep ≡ stepFound s o
-    step-other n = no-step (stands-other s 5 o d h ed n)
+    pub end-other : (d ≡ 5 → ⊥) → 0 ≡ stepEnd s o
+    end-other n = no-end (stands-other s 5 o d h ed n)
 
     pub cell-other : (d ≡ 3 → ⊥) → NoCell ≡ cellFound s o
     cell-other n = no-cell (stands-other s 3 o d h ed n)
 
     module _ (p : ℕ) (q : p ≡ next s o) where
-      pub step-short : d ≡ 5 → length s < p → NoStep ≡ stepFound s o
-      step-short e l = no-step (stands-short s 5 o d h ed p e q l)
+      pub end-short : d ≡ 5 → length s < p → 0 ≡ stepEnd s o
+      end-short e l = no-end (stands-short s 5 o d h ed p e q l)
 
       pub cell-short : d ≡ 3 → length s < p → NoCell ≡ cellFound s o
       cell-short e l = no-cell (stands-short s 3 o d h ed p e q l)
 
       module _ (bytes : (i : ℕ) → Fits w8 (byteAt s i)) (l : p ≤ length s) where
-        pub step-there : (x : Step) → d ≡ 5 → x ≡ stepAt s o → StepThere x p ≡ stepFound s o
-        unfolding stepFound
-        step-there x e ex = simp (stands-whole s 5 o d h ed p e q (bytes o .fits) (omega arith) l, ex, q)
+        pub end-there : d ≡ 5 → p ≡ stepEnd s o
+        unfolding stepEnd
+        end-there e = simp (stands-whole s 5 o d h ed p e q (bytes o .fits) (omega arith) l, q)
 
         pub cell-there : (x : Declared) → d ≡ 3 → x ≡ declaredAt s o → CellThere x ≡ cellFound s o
         unfolding cellFound
         cell-there x e ex = simp (stands-whole s 3 o d h ed p e q (bytes o .fits) (omega arith) l, ex)
 
-pub ruleset found = (step-past, cell-past, step-other, cell-other, step-short, cell-short, step-there, cell-there)
+-- a step stands where its end is not 0
+module _ (s : List ℕ) (o e : ℕ) (q : e ≡ stepEnd s o) where
+  pub step-none : e ≡ 0 → NoStep ≡ stepFound s o
+  unfolding stepFound stepEnd both
+  step-none z = go (stands s 5 o) refl
+    where
+      go : (t : Bool) → stands s 5 o ≡ t → NoStep ≡ stepFound s o
+      go true h = absurd (omega (arith, (simp h at q), stood-span s o h))
+      go false h = simp h
+
+  pub step-some : (e ≡ 0 → ⊥) → (p : Step) → p ≡ stepAt s o → StepThere p e ≡ stepFound s o
+  unfolding stepFound stepEnd
+  step-some z p ep = go (stands s 5 o) refl
+    where
+      go : (t : Bool) → stands s 5 o ≡ t → StepThere p e ≡ stepFound s o
+      go true h = let n : e ≡ next s o = simp h at q in simp (h, ep, n)
+      go false h = let n : e ≡ 0 = simp h at q in absurd (z n)
+
+  pub step-inside : (e ≡ 0 → ⊥) → o < length s
+  unfolding stepEnd both
+  step-inside z = go (ltb o (length s)) refl
+    where
+      go : (t : Bool) → ltb o (length s) ≡ t → o < length s
+      go true h = ltb-true _ _ h
+      go false h = let n : e ≡ 0 = simp h at q in absurd (z n)
+
+  -- its kind is a step's
+  pub step-kind : (e ≡ 0 → ⊥) → (64 ≤ byteAt s o) × (byteAt s o ≤ 74)
+  unfolding stepEnd both
+  step-kind z = go (ltb o (length s)) refl (inGroup s 5 o) refl
+    where
+      go : (a : Bool) → ltb o (length s) ≡ a → (b : Bool) → inGroup s 5 o ≡ b → (64 ≤ byteAt s o) × (byteAt s o ≤ 74)
+      go true h true g = is-step (byteAt s o) (eqb-true _ _ g)
+      go true h false g = let n : e ≡ 0 = simp (h, g) at q in absurd (z n)
+      go false h b g = let n : e ≡ 0 = simp h at q in absurd (z n)
+
+pub ruleset found = (end-past, cell-past, end-other, cell-other, end-short, cell-short, end-there, cell-there, step-none, step-some, step-inside)
 
 -- the offset past a step that was found
 found-next : (s : List ℕ) (o n : ℕ) (p : Step) (x : StepAt) → x ≡ stepFound s o → x ≡ StepThere p n → (o < n) × (n ≤ length s)

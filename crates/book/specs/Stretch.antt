@@ -1,6 +1,7 @@
 -- A block's stretch of the book, and what stands at an offset.
 --     foundBlock, stretch        "Asked for a block, a call hands back that block's stretch of the lent book, steps only."
 --     stepFound, cellFound       the step, the declared cell that stands at an offset, if one does
+--     stepEnd                    the offset past the step that stands at an offset
 -- Assumes nothing.
 use Prim.Native.Nat.{ℕ}
 use mathlib.Core.Bool.{Bool, not}
@@ -43,6 +44,10 @@ stands s g o = both (ltb o (length s)) (both (inGroup s g o) (not (cut s o)))
 
 unfoldable pub stepFound : List ℕ → ℕ → StepAt
 stepFound s o = if stands s 5 o then StepThere (stepAt s o) (next s o) else NoStep
+
+-- the offset past it, 0 where none stands
+unfoldable pub stepEnd : List ℕ → ℕ → ℕ
+stepEnd s o = if stands s 5 o then next s o else 0
 
 unfoldable pub cellFound : List ℕ → ℕ → CellAt
 cellFound s o = if stands s 3 o then CellThere (declaredAt s o) else NoCell

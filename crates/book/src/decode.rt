@@ -14,7 +14,7 @@ ghost use Prim.Native.Nat.{_<_};
 ghost use lib.ListN.{length};
 ghost use Rattle.book.specs.Book.{shapeAt, valueOf, declaredAt, stepAt};
 ghost use Rattle.book.specs.Outline.{shapeIn};
-ghost use Rattle.book.specs.Stretch.{stepFound, cellFound};
+ghost use Rattle.book.specs.Stretch.{stepFound, stepEnd, cellFound};
 
 // The shape at an offset.
 pub fn decode_shape(s: &[u8], o: usize) -> Shape
@@ -119,23 +119,34 @@ pub fn decode_step(s: &[u8], o: usize) -> Step
     }
 }
 
-// The step that stands at an offset of a stretch, and the offset past it.
-pub fn step_at(stretch: &[u8], offset: usize) -> StepAt
-    ensures { λ r. ⌜ r ≡ stepFound (now (stretch .entry)) offset ⌝ }
+// The offset past the step that stands at an offset of a stretch; 0 where none does.
+pub fn step_end(stretch: &[u8], offset: usize) -> usize
+    ensures { λ r. ⌜ r ≡ stepEnd (now (stretch .entry)) offset ⌝ }
 {
     if offset < stretch.len() {
         let k = stretch[offset];
         if fields::group_of(k) != 5 {
-            return StepAt::NoStep;
+            return 0;
         }
         let end = walk::next_record(stretch, offset);
         if stretch.len() < end {
-            return StepAt::NoStep;
+            return 0;
         }
-        let step = decode_step(stretch, offset);
-        return StepAt::StepThere(step, end);
+        return end;
     }
-    StepAt::NoStep
+    0
+}
+
+// The step that stands at an offset of a stretch, and the offset past it.
+pub fn step_at(stretch: &[u8], offset: usize) -> StepAt
+    ensures { λ r. ⌜ r ≡ stepFound (now (stretch .entry)) offset ⌝ }
+{
+    let end = step_end(stretch, offset);
+    if end == 0 {
+        return StepAt::NoStep;
+    }
+    let step = decode_step(stretch, offset);
+    StepAt::StepThere(step, end)
 }
 
 // The declared cell that stands at an offset of a book.

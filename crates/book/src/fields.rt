@@ -1,6 +1,6 @@
 // Bytes and numbers of a book, and what a kind fixes.
 ghost use mathlib.Core.Path.{_≡_};
-ghost use Prim.Native.Nat.{_+_, _≤_};
+ghost use Prim.Native.Nat.{_+_, _*_, _≤_};
 ghost use lib.ListN.{length};
 ghost use Rattle.book.specs.Kinds.{span, group};
 ghost use Rattle.book.specs.Records.{byteAt, numberAt};
@@ -25,16 +25,21 @@ pub fn offset_of(x: u16) -> usize
     x as usize
 }
 
-// A number of 4 bytes, little-endian.
+fn joined(a: u8, b: u8, c: u8, d: u8) -> u32
+    ensures { λ r. ⌜ r ≡ a + 256 * b + 65536 * c + 16777216 * d ⌝ }
+{
+    wide(a) + 256 * wide(b) + 65536 * wide(c) + 16777216 * wide(d)
+}
+
+// A number of 4 bytes, little-endian. Inside the book one test serves all four.
 pub fn number(s: &[u8], o: usize) -> u32
     requires { ⌜ o ≤ length (now s) + 4 ⌝ }
     ensures { λ r. ⌜ r ≡ numberAt (now (s .entry)) o ⌝ }
 {
-    let a = wide(byte(s, o));
-    let b = wide(byte(s, o + 1));
-    let c = wide(byte(s, o + 2));
-    let d = wide(byte(s, o + 3));
-    a + 256 * b + 65536 * c + 16777216 * d
+    if o + 4 <= s.len() {
+        return joined(s[o], s[o + 1], s[o + 2], s[o + 3]);
+    }
+    joined(byte(s, o), byte(s, o + 1), byte(s, o + 2), byte(s, o + 3))
 }
 
 // The bytes of a step of a kind. Put is asked for first: the longest books are full of it.

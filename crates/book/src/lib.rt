@@ -11,6 +11,7 @@ pub use decode::decode_shape;
 pub use decode::decode_step;
 pub use decode::shape_in;
 pub use decode::step_at;
+pub use decode::step_end;
 pub use decode::value_of;
 pub use fields::byte;
 pub use fields::group_of;
