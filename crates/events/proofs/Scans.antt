@@ -95,20 +95,28 @@ module _ (l : List ℕ) (o w : ℕ) (q : w ≡ span (byteAt l o)) (h : o < lengt
   pub cut-not : (w ≡ 0 → ⊥) → w ≤ length l - o → false ≡ cut l o
   cut-not e b = sym (by.uncut span l o (λ z. e (q ∙ z)) (omega arith))
 
--- a step, which the code asks for first
-module _ (l : List ℕ) (o : ℕ) (e : byteAt l o ≡ 80) where
-  pub next-step : o + 2 ≡ next l o
-  unfolding span
-  next-step = simp e
-
-  module _ (h : o < length l) where
+-- a step and a write, which the code asks for by themselves
+module _ (l : List ℕ) (o : ℕ) (h : o < length l) where
+  module _ (e : byteAt l o ≡ 80) where
     pub cut-step : length l - o < 2 → true ≡ cut l o
     cut-step b = cut-body l o 2 (span-80 _ e) h b
 
     pub cut-step-not : 2 ≤ length l - o → false ≡ cut l o
     cut-step-not b = cut-not l o 2 (span-80 _ e) h (λ z. omega (arith, z)) b
 
-pub ruleset cuts = (cut-kind, cut-body, cut-not, cut-step, cut-step-not)
+  module _ (e : byteAt l o ≡ 81) where
+    pub cut-write : length l - o < 8 → true ≡ cut l o
+    cut-write b = cut-body l o 8 (span-81 _ e) h b
+
+    pub cut-write-not : 8 ≤ length l - o → false ≡ cut l o
+    cut-write-not b = cut-not l o 8 (span-81 _ e) h (λ z. omega (arith, z)) b
+
+pub ruleset cuts = (cut-kind, cut-body, cut-not, cut-step, cut-step-not, cut-write, cut-write-not)
+
+-- the offset past a step
+pub next-step : (l : List ℕ) (o : ℕ) → byteAt l o ≡ 80 → o + 2 ≡ next l o
+unfolding span
+next-step l o e = simp e
 
 -- the scan has come to o, with n events behind
 pub record Scanning (l : List ℕ) (o n : ℕ) : Type 0 where

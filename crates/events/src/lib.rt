@@ -38,7 +38,8 @@ fn span_of(kind: u8) -> u8
     0
 }
 
-// The event at an offset has an unknown kind or a cut body.
+// The event at an offset has an unknown kind or a cut body. A step and a write are asked for by themselves, so that the processor need not
+// wait for a look-up before it goes on to the next event.
 fn is_cut(list: &[u8], o: usize) -> bool
     requires { ⌜ o < length (now list) ⌝ }
     ensures { λ r. ⌜ r ≡ cut (now (list .entry)) o ⌝ }
@@ -46,6 +47,12 @@ fn is_cut(list: &[u8], o: usize) -> bool
     let k = list[o];
     if k == 80 {
         if list.len() - o < 2 {
+            return true;
+        }
+        return false;
+    }
+    if k == 81 {
+        if list.len() - o < 8 {
             return true;
         }
         return false;
