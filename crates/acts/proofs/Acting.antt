@@ -24,7 +24,7 @@ use Rattle.acts.specs.declared.Stored.{Stored}
 use Rattle.acts.specs.declared.Cell.{Cell}
 use Rattle.acts.specs.declared.Near.{Near}
 use Rattle.acts.specs.declared.Effect.the-variants.{Blocked, Store, Create, Launch}
-use Rattle.acts.specs.Views.{storedOf, cellOf, nearby, effectOf, jobAfter, kept, Does, Makes}
+use Rattle.acts.specs.Views.{storedOf, contentOf, cellWith, cellOf, nearby, effectOf, jobAfter, kept, sortOf, Only, waits, acts, Does, Makes, storeSort, launchSort}
 
 pub same-some : {A : Type 0} (x : A) (n k : ℕ) → k < n → getElem? (replicate n x) k ≡ some x
 same-some x zero k h = absurd (omega arith)
@@ -134,31 +134,31 @@ idle = freshJob sources 0 (label 0) (label 0)
 abbrev launching : Label → Label → Near → ℕ → Effect Label
 launching l h y b =
     unless (isFree tableSize (nearby y .jobs))
-    (launch (freshJob sources b (execLabel l (y .cell .label)) (lower (lower h (y .cell .content .source)) (execLabel l (y .cell .label)))))
+    (launch (freshJob sources b (execLabel l (y .cell .label)) (lower (lower h (y .cell .source)) (execLabel l (y .cell .label)))))
 
 -- what the code hands back, by what the effect e of the act is
 module _ {s : State Label} {e : Effect Label} where
   module _ {k : ℕ} where
-    is-blocked : e ≡ blocked → Does s k e Blocked
-    unfolding effectOf jobAfter kept
-    is-blocked q = record { does = λ j. rw q refl }
+    is-blocked : {n : ℕ} → e ≡ blocked → Does n s k e Blocked
+    unfolding effectOf jobAfter kept sortOf
+    is-blocked q = record { does = λ j. rw q refl; only = waits refl }
 
-    is-store : {c : Cell} → e ≡ store k (cellOf c) → Does s k e (Store c)
-    unfolding effectOf jobAfter kept
-    is-store q = record { does = λ j. rw q refl }
+    is-store : {c : Cell} → e ≡ store k (cellOf c) → Does storeSort s k e (Store c)
+    unfolding effectOf jobAfter kept sortOf
+    is-store q = record { does = λ j. rw q refl; only = acts refl }
 
-    is-launch : {b : ℕ} {l h : Label} → e ≡ launch (freshJob sources b l h) → Does s k e (Launch b l h)
-    unfolding effectOf jobAfter kept
-    is-launch q = record { does = λ j. rw q refl }
+    is-launch : {b : ℕ} {l h : Label} → e ≡ launch (freshJob sources b l h) → Does launchSort s k e (Launch b l h)
+    unfolding effectOf jobAfter kept sortOf
+    is-launch q = record { does = λ j. rw q refl; only = acts refl }
 
   module _ {r : ℕ} where
     is-not-made : e ≡ blocked → Makes s r e Blocked
-    unfolding effectOf jobAfter kept
-    is-not-made q = record { does = λ j. rw q refl }
+    unfolding effectOf jobAfter kept sortOf
+    is-not-made q = record { does = λ j. rw q refl; only = waits refl }
 
     is-made : {c : Cell} → e ≡ create (cellOf c) → Makes s r e (Create r c)
-    unfolding effectOf jobAfter kept
-    is-made q = record { does = λ j. rw q refl }
+    unfolding effectOf jobAfter kept sortOf
+    is-made q = record { does = λ j. rw q refl; only = acts refl }
 
 -- by an actor of label l and source h; y is what it looks at
 module _ (l h : Label) (y : Near) where
@@ -169,87 +169,87 @@ module _ (l h : Label) (y : Near) where
   nowhere k r = same-none (cellOf (y .cell)) (y .cells) k r
 
   module _ (k : ℕ) (v : Stored) where
-    pub write-none : y .cells ≤ k → Does (nearby y) k (writing sources (nearby y) l h k (storedOf v)) Blocked
+    pub write-none : y .cells ≤ k → Does storeSort (nearby y) k (writing sources (nearby y) l h k (storedOf v)) Blocked
     unfolding writing onSome
     write-none r = is-blocked (simp (nowhere k r))
 
     module _ (r : k < y .cells) (b : Bool) (eb : b ≡ reaches l (y .cell .label)) where
-      pub write-high : b ≡ false → Does (nearby y) k (writing sources (nearby y) l h k (storedOf v)) Blocked
+      pub write-high : b ≡ false → Does storeSort (nearby y) k (writing sources (nearby y) l h k (storedOf v)) Blocked
       unfolding writing onSome given
       write-high f = is-blocked (simp (there k r, ← eb, f))
 
-      pub write-done : (x : Stored) → b ≡ true → storedOf x ≡ acted sources h (storedOf v)
-          → Does (nearby y) k (writing sources (nearby y) l h k (storedOf v))
-          (Store (record { content = x; shape = y .cell .shape; label = y .cell .label }))
+      pub write-done : (x : Stored) (c : Cell) → b ≡ true → storedOf x ≡ acted sources h (storedOf v) → c ≡ cellWith x (y .cell .shape) (y .cell .label)
+          → Does storeSort (nearby y) k (writing sources (nearby y) l h k (storedOf v)) (Store c)
       unfolding writing onSome given
-      write-done x f e = is-store (simp (there k r, ← eb, f, e))
+      write-done x c f e ec = is-store (rw ec (simp (there k r, ← eb, f, e)))
 
   module _ (k : ℕ) (o : Label) where
-    pub relabel-none : y .cells ≤ k → Does (nearby y) k (relabelling sources (nearby y) l h k o) Blocked
+    pub relabel-none : y .cells ≤ k → Does storeSort (nearby y) k (relabelling sources (nearby y) l h k o) Blocked
     unfolding relabelling onSome
     relabel-none r = is-blocked (simp (nowhere k r))
 
     module _ (r : k < y .cells) (a : Bool) (ea : a ≡ reaches l (y .cell .label)) where
-      pub relabel-old : a ≡ false → Does (nearby y) k (relabelling sources (nearby y) l h k o) Blocked
+      pub relabel-old : a ≡ false → Does storeSort (nearby y) k (relabelling sources (nearby y) l h k o) Blocked
       unfolding relabelling onSome given both
       relabel-old f = is-blocked (simp (there k r, ← ea, f))
 
       module _ (f : a ≡ true) (b : Bool) (eb : b ≡ reaches l o) where
-        pub relabel-new : b ≡ false → Does (nearby y) k (relabelling sources (nearby y) l h k o) Blocked
+        pub relabel-new : b ≡ false → Does storeSort (nearby y) k (relabelling sources (nearby y) l h k o) Blocked
         unfolding relabelling onSome given both
         relabel-new g = is-blocked (simp (there k r, ← ea, f, ← eb, g))
 
-        pub relabel-done : b ≡ true
-            → Does (nearby y) k (relabelling sources (nearby y) l h k o)
-            (Store (record { content = y .cell .content; shape = y .cell .shape; label = o }))
+        pub relabel-done : (x : Stored) (c : Cell) → b ≡ true → x ≡ contentOf (y .cell) → c ≡ cellWith x (y .cell .shape) o
+            → Does storeSort (nearby y) k (relabelling sources (nearby y) l h k o) (Store c)
         unfolding relabelling onSome given both
-        relabel-done g = is-store (simp (there k r, ← ea, f, ← eb, g))
+        relabel-done x c g ex ec = is-store (rw (ec, ex) (simp (there k r, ← ea, f, ← eb, g)))
 
   module _ (r i : ℕ) (v : Stored) where
     pub make-full : 64 ≤ y .cells → Makes (nearby y) r (making sources tableSize (nearby y) l h i (storedOf v)) Blocked
     unfolding making given
     make-full f = is-not-made (simp (length-replicate (y .cells) (cellOf (y .cell)), le-ltb _ _ f))
 
-    pub make-done : (x : Stored) → y .cells < 64 → storedOf x ≡ acted sources h (storedOf v)
-        → Makes (nearby y) r (making sources tableSize (nearby y) l h i (storedOf v)) (Create r (record { content = x; shape = i; label = l }))
+    pub make-done : (x : Stored) (c : Cell) → y .cells < 64 → storedOf x ≡ acted sources h (storedOf v) → c ≡ cellWith x i l
+        → Makes (nearby y) r (making sources tableSize (nearby y) l h i (storedOf v)) (Create r c)
     unfolding making given
-    make-done x f e = is-made (simp (length-replicate (y .cells) (cellOf (y .cell)), lt-ltb _ _ f, e))
+    make-done x c f e ec = is-made (rw ec (simp (length-replicate (y .cells) (cellOf (y .cell)), lt-ltb _ _ f, e)))
 
   module _ (b : ℕ) where
-    pub start-full : 64 ≤ y .jobs → Does (nearby y) 0 (starting sources tableSize (nearby y) l h b) Blocked
+    pub start-full : 64 ≤ y .jobs → Does launchSort (nearby y) 0 (starting sources tableSize (nearby y) l h b) Blocked
     unfolding starting given
     start-full r = is-blocked (simp (length-replicate (y .jobs) idle, le-ltb _ _ r))
 
-    pub start-done : y .jobs < 64 → Does (nearby y) 0 (starting sources tableSize (nearby y) l h b) (Launch b l h)
+    pub start-done : y .jobs < 64 → Does launchSort (nearby y) 0 (starting sources tableSize (nearby y) l h b) (Launch b l h)
     unfolding starting given
     start-done r = is-launch (simp (length-replicate (y .jobs) idle, lt-ltb _ _ r))
 
   module _ (k : ℕ) where
-    pub exec-none : y .cells ≤ k → Does (nearby y) k (executing sources tableSize (nearby y) l h k) Blocked
+    pub exec-none : y .cells ≤ k → Does launchSort (nearby y) k (executing sources tableSize (nearby y) l h k) Blocked
     unfolding executing onSome
     exec-none r = is-blocked (simp (nowhere k r))
 
-    module _ (r : k < y .cells) where
-      pub exec-other : y .cell .content .kind < 2 → Does (nearby y) k (executing sources tableSize (nearby y) l h k) Blocked
+    -- v is the cell's content
+    module _ (r : k < y .cells) (v : Stored) (ev : v ≡ contentOf (y .cell)) where
+      pub exec-other : v .kind < 2 → Does launchSort (nearby y) k (executing sources tableSize (nearby y) l h k) Blocked
       unfolding executing onSome
       exec-other n =
-          is-blocked (simp (there k r, not-code blocked (launching l h y) (y .cell .content .number) (y .cell .content .kind) n))
+          is-blocked (simp (there k r, not-code blocked (launching l h y) (y .cell .number) (y .cell .kind) (rw ev at n)))
 
-      module _ (n : 2 ≤ y .cell .content .kind) where
-        pub exec-full : 64 ≤ y .jobs → Does (nearby y) k (executing sources tableSize (nearby y) l h k) Blocked
+      module _ (n : 2 ≤ v .kind) where
+        pub exec-full : 64 ≤ y .jobs → Does launchSort (nearby y) k (executing sources tableSize (nearby y) l h k) Blocked
         unfolding executing onSome given
         exec-full f =
             is-blocked
-            (simp (there k r, is-code blocked (launching l h y) (y .cell .content .number) (y .cell .content .kind) n)
+            (simp (there k r, is-code blocked (launching l h y) (y .cell .number) (y .cell .kind) (rw ev at n))
             (simp (length-replicate (y .jobs) idle, le-ltb _ _ f)))
 
-        pub exec-done : (low s t : Label) → y .jobs < 64 → low ≡ lower l (y .cell .label) → s ≡ lower h (y .cell .content .source) → t ≡ lower s low
-            → Does (nearby y) k (executing sources tableSize (nearby y) l h k) (Launch (y .cell .content .number) low t)
+        pub exec-done : (low s t : Label) → y .jobs < 64 → low ≡ lower l (y .cell .label) → s ≡ lower h (v .source) → t ≡ lower s low
+            → Does launchSort (nearby y) k (executing sources tableSize (nearby y) l h k) (Launch (v .number) low t)
         unfolding executing onSome given execLabel
         exec-done low s t f el es et =
-            is-launch
-            (simp (there k r, is-code blocked (launching l h y) (y .cell .content .number) (y .cell .content .kind) n)
-            (simp (length-replicate (y .jobs) idle, lt-ltb _ _ f, et, es, el)))
+            rw ev
+            (is-launch
+            (simp (there k r, is-code blocked (launching l h y) (y .cell .number) (y .cell .kind) (rw ev at n))
+            (simp (length-replicate (y .jobs) idle, lt-ltb _ _ f, et, (rw ev at es), el))))
 
 pub ruleset writes = (write-none, write-high, write-done)
 

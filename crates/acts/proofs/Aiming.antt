@@ -16,7 +16,7 @@ use Rattle.machine.specs.States.{Traced}
 use Rattle.machine.specs.Records.{numberOf}
 use Rattle.acts.specs.declared.Stored.{Stored}
 use Rattle.acts.specs.declared.Effect.{Effect}
-use Rattle.acts.specs.Views.{storedOf, actor, registerIn, reachedBy, reachedIn, clamped, answerOf}
+use Rattle.acts.specs.Views.{storedOf, actor, targetBy, targetIn, reachedBy, reachedIn, clamped, answerOf}
 use Rattle.acts.specs.Outside.{aimedAt}
 use Rattle.acts.proofs.Acting.{number-is}
 
@@ -36,22 +36,24 @@ aim-is e f k d q = rw d q
 pub answer-is : (x y : Effect) (a : ℕ) → x ≡ y → a ≡ answerOf y → a ≡ answerOf x
 answer-is x y a d q = rw d q
 
-pub number-there : (h : Label) (rs : List Stored) (w : ℕ) (x : Stored) → storedOf x ≡ registerIn h rs w → x .number ≡ numberOf (registerIn h rs w .value)
-number-there h rs w x e = sym (number-is (x .kind) (x .number)) ∙ ap (λ (t : Traced Label). numberOf (t .value)) e
+-- u is the register that names the cell which step p reaches
+module _ (p : Step) (h : Label) (rs : List Stored) where
+  pub target-number : (u : Stored) → storedOf u ≡ targetIn p h rs → u .number ≡ reachedIn p h rs
+  target-number u e = sym (number-is (u .kind) (u .number)) ∙ ap (λ (t : Traced Label). numberOf (t .value)) e
 
-pub reach-is : (p q : Step) (h : Label) (rs : List Stored) (k : ℕ) → p ≡ q → k ≡ reachedIn q h rs → k ≡ reachedIn p h rs
-reach-is p q h rs k d e = rw d e
-
-pub reached-same : (p : Step) (l h : Label) (rs : List Stored) (b i : ℕ) → reachedBy p (actor l h rs b i) ≡ reachedIn p h rs
-unfolding reachedBy
-reached-same (Put r n) l h rs b i = refl
-reached-same (Name r k) l h rs b i = refl
-reached-same (Code r k) l h rs b i = refl
-reached-same (Add r x y) l h rs b i = refl
-reached-same (New r x y) l h rs b i = refl
-reached-same (Read r w) l h rs b i = refl
-reached-same (Write w x) l h rs b i = refl
-reached-same (Relabel w o) l h rs b i = refl
-reached-same (Lower q) l h rs b i = refl
-reached-same (Start x) l h rs b i = refl
-reached-same (Exec w) l h rs b i = refl
+  pub reached-same : (l : Label) (b i : ℕ) → reachedBy p (actor l h rs b i) ≡ reachedIn p h rs
+  unfolding targetBy
+  reached-same l b i = go p
+    where
+      go : (p : Step) → reachedBy p (actor l h rs b i) ≡ reachedIn p h rs
+      go (Put r n) = refl
+      go (Name r k) = refl
+      go (Code r k) = refl
+      go (Add r x y) = refl
+      go (New r x y) = refl
+      go (Read r w) = refl
+      go (Write w x) = refl
+      go (Relabel w o) = refl
+      go (Lower q) = refl
+      go (Start x) = refl
+      go (Exec w) = refl

@@ -4,3 +4,4 @@ pub mod Taking
 pub mod Such
 pub mod Nearby
 pub mod Aiming
+pub mod Telling

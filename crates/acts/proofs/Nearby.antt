@@ -33,7 +33,7 @@ use Rattle.acts.specs.declared.Stored.{Stored}
 use Rattle.acts.specs.declared.Effect as Acts
 use Rattle.acts.specs.declared.Effect.the-variants.{Blocked, Give, Store, Create, Launch}
 use Rattle.acts.specs.declared.Effect.the-variants as Effects
-use Rattle.acts.specs.Views.{cellOf, actor, nearby, effectOf, jobAfter, turnTaken, kept, numberIn, reachedBy, Takes}
+use Rattle.acts.specs.Views.{cellOf, actor, nearby, effectOf, jobAfter, turnTaken, kept, numberIn, targetBy, reachedBy, Takes}
 use Rattle.acts.specs.Outside.{aimedAt, outside}
 use Rattle.acts.proofs.Acting.{same-some, same-none}
 
@@ -104,7 +104,7 @@ module _ (s : State Label) (y : Near) (cells-are : length (s .cells) ≡ y .cell
         go (CodeName b) e = simp e
 
     pub turn-nearby : (p : Step) → Reached (reachedBy p j) → turnOf sources tableSize s j p ≡ turnOf sources tableSize (nearby y) j p
-    unfolding turnOf reachedBy
+    unfolding turnOf targetBy
     turn-nearby (Put r n) t = refl
     turn-nearby (Name r k) t = refl
     turn-nearby (Code r b) t = refl
@@ -237,20 +237,20 @@ module _ (s : State Label) (y : Near) (cells-are : length (s .cells) ≡ y .cell
   same-after j (Create r c) = rw (cells-are, length-replicate (y .cells) (cellOf (y .cell))) refl
   same-after j (Launch b l h) = refl
 
-  pub step-lands : (p : Step) (l h : Label) (rs : List Stored) (b n i : ℕ) (x : Acts.Effect)
-      → Reached s y cells-are jobs-are (reachedBy p (actor l h rs b n)) → Takes (nearby y) p l h rs x
+  pub step-lands : (p : Step) (l h : Label) (rs : List Stored) (b n i : ℕ) (x : Acts.Effect) (a : ℕ)
+      → Reached s y cells-are jobs-are (reachedBy p (actor l h rs b n)) → Takes a (nearby y) p l h rs x
       → turnLanded s i (turnTaken s (actor l h rs b n) (reachedBy p (actor l h rs b n)) x)
       ≡ turnLanded s i (turnOf sources tableSize s (actor l h rs b n) p)
-  step-lands p l h rs b n i x r t =
+  step-lands p l h rs b n i x a r t =
       ap (λ (g : Job Label). turnLanded s i (record { job = g; effect = effectOf (reachedBy p (actor l h rs b n)) x })) (same-after (actor l h rs b n) x)
       ∙ ap (turnLanded s i) (t .takes b n)
       ∙ settled-lands s i (actor l h rs b n) (turnOf sources tableSize (nearby y) (actor l h rs b n) p .job) (turnOf sources tableSize (nearby y) (actor l h rs b n) p .effect)
       ∙ ap (turnLanded s i) (sym (turn-nearby s y cells-are jobs-are (actor l h rs b n) p r))
 
-  pub step-allowed : (p : Step) (l h : Label) (rs : List Stored) (b n : ℕ) (x : Acts.Effect)
-      → Reached s y cells-are jobs-are (reachedBy p (actor l h rs b n)) → Takes (nearby y) p l h rs x
+  pub step-allowed : (p : Step) (l h : Label) (rs : List Stored) (b n : ℕ) (x : Acts.Effect) (a : ℕ)
+      → Reached s y cells-are jobs-are (reachedBy p (actor l h rs b n)) → Takes a (nearby y) p l h rs x
       → Allowed s (effectOf (reachedBy p (actor l h rs b n)) x)
-  step-allowed p l h rs b n x r t =
+  step-allowed p l h rs b n x a r t =
       let e : effectOf (reachedBy p (actor l h rs b n)) x ≡ turnOf sources tableSize s (actor l h rs b n) p .effect
       = ap (λ (t : Turn Label). t .effect) (t .takes b n ∙ refl)
       ∙ sym (ap (λ (t : Turn Label). t .effect) (turn-nearby s y cells-are jobs-are (actor l h rs b n) p r)) in

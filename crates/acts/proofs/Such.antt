@@ -26,7 +26,7 @@ use Rattle.acts.specs.declared.Stored.{Stored}
 use Rattle.acts.specs.declared.Near.{Near}
 use Rattle.acts.specs.declared.Effect.{Effect}
 use Rattle.acts.specs.declared.Effect.the-variants.{Blocked}
-use Rattle.acts.specs.Views.{storedOf, nearby, effectOf, Does, Makes}
+use Rattle.acts.specs.Views.{storedOf, nearby, effectOf, Does, Makes, storeSort, launchSort}
 use Rattle.acts.specs.Outside.{lowCellShape, suchValue, suchWrite, suchRelabel, suchNew, suchNumber, such, aimedAt, outside}
 
 module _ (c : Label) (x y : Shape) (e : y ≡ x) where
@@ -154,20 +154,20 @@ unfolding effectOf outside
 outside-step y e i d = simp d
 
 -- what an act does to the tables
-does-is : {s : State Label} {k : ℕ} {e : Acts.Effect Label} {x : Effect} → Does s k e x → effectOf k x ≡ e
-does-is {s} d = ap (λ (t : Turn Label). t .effect) (d .does (freshJob sources 0 (label 0) (label 0)))
+does-is : {n : ℕ} {s : State Label} {k : ℕ} {e : Acts.Effect Label} {x : Effect} → Does n s k e x → effectOf k x ≡ e
+does-is {n} {s} d = ap (λ (t : Turn Label). t .effect) (d .does (freshJob sources 0 (label 0) (label 0)))
 
 makes-is : {s : State Label} {r : ℕ} {e : Acts.Effect Label} {x : Effect} → Makes s r e x → effectOf 0 x ≡ e
 makes-is {s} d = ap (λ (t : Turn Label). t .effect) (d .does (freshJob sources 0 (label 0) (label 0)))
 
 module _ (y : Near) (e : Event) (x : Effect) where
   pub outside-write : (q : Label) (k v n : ℕ) (t : Stored) → e ≡ WriteBy q k v n → storedOf t ≡ brought sources q v n
-      → Does (nearby y) k (writing sources (nearby y) q q k (storedOf t)) x → effectOf (aimedAt e) x ≡ outside (nearby y) e
+      → Does storeSort (nearby y) k (writing sources (nearby y) q q k (storedOf t)) x → effectOf (aimedAt e) x ≡ outside (nearby y) e
   unfolding aimedAt outside
   outside-write q k v n t d et ex = rw d (does-is ex ∙ ap (writing sources (nearby y) q q k) et)
 
   pub outside-relabel : (q : Label) (k : ℕ) (o : Label) → e ≡ RelabelBy q k o
-      → Does (nearby y) k (relabelling sources (nearby y) q q k o) x → effectOf (aimedAt e) x ≡ outside (nearby y) e
+      → Does storeSort (nearby y) k (relabelling sources (nearby y) q q k o) x → effectOf (aimedAt e) x ≡ outside (nearby y) e
   unfolding aimedAt outside
   outside-relabel q k o d ex = rw d (does-is ex)
 
@@ -176,12 +176,12 @@ module _ (y : Near) (e : Event) (x : Effect) where
   unfolding aimedAt outside
   outside-new q r i v n t d et ex = rw d (makes-is ex ∙ ap (making sources tableSize (nearby y) q q i) et)
 
-  pub outside-exec : (q : Label) (k : ℕ) → e ≡ ExecBy q k → Does (nearby y) k (executing sources tableSize (nearby y) q q k) x
+  pub outside-exec : (q : Label) (k : ℕ) → e ≡ ExecBy q k → Does launchSort (nearby y) k (executing sources tableSize (nearby y) q q k) x
       → effectOf (aimedAt e) x ≡ outside (nearby y) e
   unfolding aimedAt outside
   outside-exec q k d ex = rw d (does-is ex)
 
-  pub outside-start : (q : Label) (b : ℕ) → e ≡ StartBy q b → Does (nearby y) 0 (starting sources tableSize (nearby y) q q b) x
+  pub outside-start : (q : Label) (b : ℕ) → e ≡ StartBy q b → Does launchSort (nearby y) 0 (starting sources tableSize (nearby y) q q b) x
       → effectOf (aimedAt e) x ≡ outside (nearby y) e
   unfolding aimedAt outside
   outside-start q b d ex = rw d (does-is ex)

@@ -2,13 +2,16 @@
 --     valueIn, storedOf, cellOf, jobOf     a value, a cell, a job
 --     actor, registerIn                    a job by what a step looks at; a register of it
 --     nearby                               a state in which every cell is the one that an act reaches
+--     contentOf, cellWith                  the content of a cell; a cell of this content
 --     effectOf, jobAfter, turnTaken        what an effect is to the tables, where cell k is reached; to the job that acts; both
+--     sortOf, Only                         the sort of an effect; one that is blocked or of one sort
 --     answerOf                             the answer to an event of this effect
 --     settled                              a turn, where the job waits if it is blocked
 --     Does, Makes, Takes                   contracts: an act on a cell or of start; new; a step
---     reachedBy, reachedIn, clamped        the cell that a step reaches; an entry of a table
+--     targetBy, reachedBy, clamped         the register that names the cell which a step reaches; that cell; an entry of a table
+--     Gives, Changes, Launches             kinds of steps, by what they do
 -- Assumes nothing.
-use Prim.Native.Nat.{ℕ, suc}
+use Prim.Native.Nat.{ℕ, suc, _<_, _≤_}
 use mathlib.Core.Path.{_≡_}
 use mathlib.Core.List.{List, map}
 use lib.Dec.{ltb}
@@ -44,8 +47,14 @@ valueIn v = valueOf (v .kind) (v .number)
 abbrev pub storedOf : Stored → Traced Label
 storedOf v = record { value = valueIn v; history = v .source }
 
+abbrev pub contentOf : Cell → Stored
+contentOf c = record { number = c .number; kind = c .kind; source = c .source }
+
+abbrev pub cellWith : Stored → ℕ → Label → Cell
+cellWith v i l = record { number = v .number; kind = v .kind; source = v .source; shape = i; label = l }
+
 abbrev pub cellOf : Cell → States.Cell Label
-cellOf c = record { shape = c .shape; label = c .label; content = storedOf (c .content) }
+cellOf c = record { shape = c .shape; label = c .label; content = storedOf (contentOf c) }
 
 -- a job of this block and position, by what a step looks at
 abbrev pub actor : Label → Label → List Stored → ℕ → ℕ → States.Job Label
@@ -110,37 +119,91 @@ settled j t = record { job = kept j (t .job) (t .effect); effect = t .effect }
 abbrev pub numberIn : States.Job Label → ℕ → ℕ
 numberIn j w = numberOf (register sources j w .value)
 
-unfoldable pub reachedBy : Step → States.Job Label → ℕ
-reachedBy (Step.Put r n) j = 0
-reachedBy (Step.Name r k) j = 0
-reachedBy (Step.Code r b) j = 0
-reachedBy (Step.Add r a b) j = 0
-reachedBy (Step.New r i a) j = 0
-reachedBy (Step.Read r w) j = numberIn j w
-reachedBy (Step.Write w a) j = numberIn j w
-reachedBy (Step.Relabel w o) j = numberIn j w
-reachedBy (Step.Lower q) j = 0
-reachedBy (Step.Start b) j = 0
-reachedBy (Step.Exec w) j = numberIn j w
+-- the register that names the cell which a step reaches; a plain 0 where it reaches none
+unfoldable pub targetBy : Step → States.Job Label → Traced Label
+targetBy (Step.Put r n) j = zeroWith sources (j .history)
+targetBy (Step.Name r k) j = zeroWith sources (j .history)
+targetBy (Step.Code r b) j = zeroWith sources (j .history)
+targetBy (Step.Add r a b) j = zeroWith sources (j .history)
+targetBy (Step.New r i a) j = zeroWith sources (j .history)
+targetBy (Step.Read r w) j = register sources j w
+targetBy (Step.Write w a) j = register sources j w
+targetBy (Step.Relabel w o) j = register sources j w
+targetBy (Step.Lower q) j = zeroWith sources (j .history)
+targetBy (Step.Start b) j = zeroWith sources (j .history)
+targetBy (Step.Exec w) j = register sources j w
 
--- which cell it is does not depend on the job's label, block and position
+-- the cell that a step reaches
+abbrev pub reachedBy : Step → States.Job Label → ℕ
+reachedBy p j = numberOf (targetBy p j .value)
+
+-- neither depends on the job's label, block and position
+abbrev pub targetIn : Step → Label → List Stored → Traced Label
+targetIn p h rs = targetBy p (actor (label 0) h rs 0 0)
+
 abbrev pub reachedIn : Step → Label → List Stored → ℕ
-reachedIn p h rs = reachedBy p (actor (label 0) h rs 0 0)
+reachedIn p h rs = numberOf (targetIn p h rs .value)
 
 -- a number in a table of 64
 abbrev pub clamped : ℕ → ℕ
 clamped k = if ltb k 64 then k else 0
 
--- x is the effect e of an act in the state s, where cell k is reached, whichever job acts
-pub record Does (s : State Label) (k : ℕ) (e : Acts.Effect Label) (x : Effect) : Type 0 where
+-- the sorts of effects, by the number of each in the enum
+abbrev pub giveSort : ℕ
+giveSort = 1
+
+abbrev pub lowerSort : ℕ
+lowerSort = 2
+
+abbrev pub storeSort : ℕ
+storeSort = 3
+
+abbrev pub createSort : ℕ
+createSort = 4
+
+abbrev pub launchSort : ℕ
+launchSort = 5
+
+unfoldable pub sortOf : Effect → ℕ
+sortOf Blocked = 0
+sortOf (Give r v) = giveSort
+sortOf (Lower q h) = lowerSort
+sortOf (Store c) = storeSort
+sortOf (Create r c) = createSort
+sortOf (Launch b l h) = launchSort
+
+-- blocked, or of sort n
+pub data Only (n : ℕ) (x : Effect) : Type 0 where
+  waits : sortOf x ≡ 0 → Only n x
+  acts : sortOf x ≡ n → Only n x
+
+-- x is the effect e of an act in the state s, where cell k is reached, whichever job acts; it is blocked or of sort n
+pub record Does (n : ℕ) (s : State Label) (k : ℕ) (e : Acts.Effect Label) (x : Effect) : Type 0 where
   pub does : (j : States.Job Label) → turnTaken s j k x ≡ settled j (turn sources (moved sources j) e)
+  pub only : Only n x
 
 -- the same of new, which names the cell in register r
 pub record Makes (s : State Label) (r : ℕ) (e : Acts.Effect Label) (x : Effect) : Type 0 where
   pub does : (j : States.Job Label) → turnTaken s j 0 x ≡ settled j (turn sources (gets sources j r (CellName (length (s .cells))) (j .history)) e)
+  pub only : Only createSort x
 
--- x is what step p does in the state s, at the label l, with the history h and these registers, whatever the job's block b and position i
-pub record Takes (s : State Label) (p : Step) (l h : Label) (rs : List Stored) (x : Effect) : Type 0 where
+-- x is what step p does in the state s, at the label l, with the history h and these registers, whatever the job's block b and position i; it is
+-- blocked or of sort n
+pub record Takes (n : ℕ) (s : State Label) (p : Step) (l h : Label) (rs : List Stored) (x : Effect) : Type 0 where
   pub takes : (b i : ℕ)
       → turnTaken s (actor l h rs b i) (reachedBy p (actor l h rs b i)) x
       ≡ settled (actor l h rs b i) (turnOf sources tableSize s (actor l h rs b i) p)
+  pub only : Only n x
+
+-- kinds of steps: put, name, code, add and read; write and relabel; start and exec
+pub record Gives (k : ℕ) : Type 0 where
+  pub from : 64 ≤ k
+  pub to : k < 70
+  pub no-new : k ≡ 68 → ⊥
+
+pub record Changes (k : ℕ) : Type 0 where
+  pub from : 70 ≤ k
+  pub to : k < 72
+
+pub record Launches (k : ℕ) : Type 0 where
+  pub from : 73 ≤ k

@@ -1,5 +1,4 @@
 // What an actor does, at its label and with its history's source h.
-use crate::Cell;
 use crate::Effect;
 use crate::Job;
 use crate::Near;
@@ -10,21 +9,17 @@ ghost use mathlib.Core.Path.{_≡_};
 ghost use Rattle.machine.specs.Histories.{sources};
 ghost use Rattle.machine.specs.Acts.{writing, relabelling, making, starting, executing};
 ghost use Rattle.machine.specs.Events.{tableSize};
-ghost use Rattle.acts.specs.Views.{storedOf, nearby, answerOf, Does, Makes};
+ghost use Rattle.acts.specs.Views.{storedOf, nearby, answerOf, Does, Makes, storeSort, launchSort};
 
 pub fn write_cell(l: Label, h: Label, near: Near, k: u32, v: Stored) -> Effect
-    ensures { λ x. ⌜ Does (nearby near) k (writing sources (nearby near) l h k (storedOf v)) x ⌝ }
+    ensures { λ x. ⌜ Does storeSort (nearby near) k (writing sources (nearby near) l h k (storedOf v)) x ⌝ }
 {
     let cell = near.cell;
     let label = cell.label;
     if (k as usize) < near.cells {
         if l.reaches(label) {
             let content = registers::acted(h, v);
-            return Effect::Store(Cell {
-                content: content,
-                shape: cell.shape,
-                label: label,
-            });
+            return Effect::Store(registers::hold(content, cell.shape, label));
         }
         return Effect::Blocked;
     }
@@ -32,19 +27,15 @@ pub fn write_cell(l: Label, h: Label, near: Near, k: u32, v: Stored) -> Effect
 }
 
 pub fn relabel_cell(l: Label, h: Label, near: Near, k: u32, o: Label) -> Effect
-    ensures { λ x. ⌜ Does (nearby near) k (relabelling sources (nearby near) l h k o) x ⌝ }
+    ensures { λ x. ⌜ Does storeSort (nearby near) k (relabelling sources (nearby near) l h k o) x ⌝ }
 {
     let cell = near.cell;
     let label = cell.label;
     if (k as usize) < near.cells {
         if l.reaches(label) {
             if l.reaches(o) {
-                let content = cell.content;
-                return Effect::Store(Cell {
-                    content: content,
-                    shape: cell.shape,
-                    label: o,
-                });
+                let content = registers::content_of(cell);
+                return Effect::Store(registers::hold(content, cell.shape, o));
             }
             return Effect::Blocked;
         }
@@ -59,20 +50,13 @@ pub fn make_cell(l: Label, h: Label, near: Near, r: u8, i: u8, v: Stored) -> Eff
 {
     if near.cells < Job::TABLE_SIZE {
         let content = registers::acted(h, v);
-        return Effect::Create(
-            r,
-            Cell {
-                content: content,
-                shape: i,
-                label: l,
-            },
-        );
+        return Effect::Create(r, registers::hold(content, i, l));
     }
     Effect::Blocked
 }
 
 pub fn start_job(l: Label, h: Label, near: Near, b: u32) -> Effect
-    ensures { λ x. ⌜ Does (nearby near) 0 (starting sources tableSize (nearby near) l h b) x ⌝ }
+    ensures { λ x. ⌜ Does launchSort (nearby near) 0 (starting sources tableSize (nearby near) l h b) x ⌝ }
 {
     if near.jobs < Job::TABLE_SIZE {
         return Effect::Launch(b, l, h);
@@ -81,13 +65,13 @@ pub fn start_job(l: Label, h: Label, near: Near, b: u32) -> Effect
 }
 
 pub fn exec_cell(l: Label, h: Label, near: Near, k: u32) -> Effect
-    ensures { λ x. ⌜ Does (nearby near) k (executing sources tableSize (nearby near) l h k) x ⌝ }
+    ensures { λ x. ⌜ Does launchSort (nearby near) k (executing sources tableSize (nearby near) l h k) x ⌝ }
 {
     let cell = near.cell;
     if near.cells <= k as usize {
         return Effect::Blocked;
     }
-    let content = cell.content;
+    let content = registers::content_of(cell);
     if content.kind < 2 {
         return Effect::Blocked;
     }

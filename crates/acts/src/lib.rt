@@ -15,14 +15,20 @@ pub use outsiders::act_outside;
 pub use outsiders::is_such;
 pub use reaching::aimed_at;
 pub use reaching::clamp;
-pub use reaching::reached_by;
+pub use reaching::target_of;
+pub use registers::content_of;
 pub use registers::gets;
+pub use registers::hold;
 pub use registers::kind_of;
 pub use registers::lowered;
 pub use registers::moved;
 pub use registers::names;
 pub use registers::register_of;
-pub use turns::take_step;
+pub use turns::change;
+pub use turns::create;
+pub use turns::give;
+pub use turns::launch;
+pub use turns::lower;
 
 // A stored value: kind 0 plain, 1 a cell, any other a block, as the book reads kinds. Its source is the lowest label of its history.
 pub struct Stored {
@@ -31,20 +37,23 @@ pub struct Stored {
     pub source: Label,
 }
 
+// A cell: the number, kind and source of its content, its shape and its label. No byte is unused, so that a table of cells is cleared at once.
 pub struct Cell {
-    pub content: Stored,
+    pub number: u32,
+    pub kind: u8,
+    pub source: Label,
     pub shape: u8,
     pub label: Label,
 }
 
 // A job; its source is the lowest label of its history. Where its next step stands in the book is the run's to know.
 pub struct Job {
+    pub registers: [Stored; 8],
+    pub at: usize,
     pub block: u32,
-    pub position: u32,
-    pub at: u32,
+    pub position: u16,
     pub label: Label,
     pub source: Label,
-    pub registers: [Stored; 8],
 }
 
 impl Job {
@@ -55,17 +64,17 @@ impl Job {
     pub const TABLE_SIZE: usize = 64;
 
     // A job at the start of its block, which stands at an offset of the book.
-    pub fn fresh(block: u32, at: u32, label: Label, source: Label) -> Job
+    pub fn fresh(block: u32, at: usize, label: Label, source: Label) -> Job
         ensures { λ x. ⌜ (jobOf x ≡ freshJob sources block label source) × (x .at ≡ at) × (x .position ≡ 0) × (x .block ≡ block) ⌝ }
     {
         let zero = registers::zero_with(source);
         Job {
+            registers: [zero; 8],
+            at: at,
             block: block,
             position: 0,
-            at: at,
             label: label,
             source: source,
-            registers: [zero; 8],
         }
     }
 }

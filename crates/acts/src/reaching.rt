@@ -2,13 +2,14 @@
 use crate::Job;
 use crate::Stored;
 use crate::registers;
-use book::Step;
 use labels::Label;
 use machine::Event;
 ghost use mathlib.Core.Path.{_≡_};
-ghost use Prim.Native.Nat.{_<_};
-ghost use Rattle.machine.specs.Records.{numberOf};
-ghost use Rattle.acts.specs.Views.{registerIn, reachedIn, clamped};
+ghost use Prim.Native.Nat.{_<_, _≤_};
+ghost use lib.ListN.{length};
+ghost use Rattle.book.specs.Records.{byteAt};
+ghost use Rattle.book.specs.Book.{stepAt};
+ghost use Rattle.acts.specs.Views.{storedOf, targetIn, clamped};
 ghost use Rattle.acts.specs.Outside.{aimedAt};
 
 // A number in a table of 64.
@@ -21,30 +22,27 @@ pub fn clamp(k: usize) -> usize
     0
 }
 
-fn number_in(h: Label, registers: [Stored; 8], w: u8) -> usize
-    ensures { λ r. ⌜ r ≡ numberOf (registerIn h registers w .value) ⌝ }
+// The register that names the cell which the step at an offset reaches, of a job of source h; a plain 0 where the step reaches none.
+pub fn target_of(s: &[u8], o: usize, h: Label, registers: [Stored; 8]) -> Stored
+    requires { ⌜ (o ≤ length (now s)) × (64 ≤ byteAt (now s) o) ⌝ }
+    ensures { λ x. ⌜ storedOf x ≡ targetIn (stepAt (now (s .entry)) o) h registers ⌝ }
 {
-    let x = registers::register_of(h, registers, w);
-    x.number as usize
-}
-
-// The cell that a step of a job of source h reaches.
-pub fn reached_by(p: Step, h: Label, registers: [Stored; 8]) -> usize
-    ensures { λ r. ⌜ r ≡ reachedIn p h registers ⌝ }
-{
-    match p {
-        Step::Put(_, _) => 0,
-        Step::Name(_, _) => 0,
-        Step::Code(_, _) => 0,
-        Step::Add(_, _, _) => 0,
-        Step::New(_, _, _) => 0,
-        Step::Read(_, w) => number_in(h, registers, w),
-        Step::Write(w, _) => number_in(h, registers, w),
-        Step::Relabel(w, _) => number_in(h, registers, w),
-        Step::Lower(_) => 0,
-        Step::Start(_) => 0,
-        Step::Exec(w) => number_in(h, registers, w),
+    let k = book::byte(s, o);
+    if k == 69 {
+        let w = book::byte(s, o + 2);
+        return registers::register_of(h, registers, w);
     }
+    if k < 70 {
+        return registers::zero_with(h);
+    }
+    if k == 72 {
+        return registers::zero_with(h);
+    }
+    if k == 73 {
+        return registers::zero_with(h);
+    }
+    let w = book::byte(s, o + 1);
+    registers::register_of(h, registers, w)
 }
 
 // The cell that an outsider reaches.

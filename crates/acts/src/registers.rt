@@ -1,4 +1,6 @@
 // The registers of a job, and a job whose step is done.
+use crate::Cell;
+use crate::Effect;
 use crate::Job;
 use crate::Stored;
 use labels::Label;
@@ -9,7 +11,8 @@ ghost use Rattle.machine.specs.Histories.{sources};
 ghost use Rattle.machine.specs.Acts.{acted, zeroWith};
 ghost use Rattle.machine.specs.Steps.{moved, gets};
 ghost use Rattle.machine.specs.Records.{kindOf};
-ghost use Rattle.acts.specs.Views.{valueIn, storedOf, jobOf, registerIn, lowered};
+ghost use Rattle.acts.specs.declared.Effect.the-variants.{Give};
+ghost use Rattle.acts.specs.Views.{valueIn, storedOf, contentOf, cellWith, jobOf, registerIn, lowered};
 
 // What registers start as, and what one past the eighth holds.
 pub fn zero_with(h: Label) -> Stored
@@ -31,6 +34,45 @@ pub fn register_of(h: Label, registers: [Stored; 8], r: u8) -> Stored
         return registers[i];
     }
     zero_with(h)
+}
+
+// A cell of this content.
+pub fn hold(content: Stored, shape: u8, label: Label) -> Cell
+    ensures { λ x. ⌜ x ≡ cellWith content shape label ⌝ }
+{
+    let source = content.source;
+    Cell {
+        number: content.number,
+        kind: content.kind,
+        source: source,
+        shape: shape,
+        label: label,
+    }
+}
+
+pub fn content_of(cell: Cell) -> Stored
+    ensures { λ x. ⌜ x ≡ contentOf cell ⌝ }
+{
+    let source = cell.source;
+    Stored {
+        number: cell.number,
+        kind: cell.kind,
+        source: source,
+    }
+}
+
+// A step gives register r this value, with the job's source h.
+pub fn given(r: u8, kind: u8, number: u32, h: Label) -> Effect
+    ensures { λ x. ⌜ x ≡ Give r (record { number = number; kind = kind; source = h }) ⌝ }
+{
+    Effect::Give(
+        r,
+        Stored {
+            number: number,
+            kind: kind,
+            source: h,
+        },
+    )
 }
 
 // The value after an act.
@@ -56,8 +98,8 @@ pub fn kind_of(v: Stored) -> u8
 }
 
 // The step is done, and the next one is at an offset of the book.
-pub fn moved(j: Job, next: u32) -> Job
-    requires { ⌜ j .position < 65536 ⌝ }
+pub fn moved(j: Job, next: usize) -> Job
+    requires { ⌜ j .position < 65535 ⌝ }
     ensures { λ x. ⌜ (jobOf x ≡ moved sources (jobOf j)) × (x .at ≡ next) ⌝ }
 {
     let mut t = j;
@@ -67,8 +109,8 @@ pub fn moved(j: Job, next: u32) -> Job
 }
 
 // The step is done, and the job has this label and source.
-pub fn lowered(j: Job, next: u32, l: Label, h: Label) -> Job
-    requires { ⌜ j .position < 65536 ⌝ }
+pub fn lowered(j: Job, next: usize, l: Label, h: Label) -> Job
+    requires { ⌜ j .position < 65535 ⌝ }
     ensures { λ x. ⌜ (jobOf x ≡ lowered (jobOf j) l h) × (x .at ≡ next) ⌝ }
 {
     let mut t = j;
@@ -80,8 +122,8 @@ pub fn lowered(j: Job, next: u32, l: Label, h: Label) -> Job
 }
 
 // The step is done, and register r has this value.
-pub fn gets(j: Job, next: u32, r: u8, v: Stored) -> Job
-    requires { ⌜ j .position < 65536 ⌝ }
+pub fn gets(j: Job, next: usize, r: u8, v: Stored) -> Job
+    requires { ⌜ j .position < 65535 ⌝ }
     ensures { λ x. ⌜ (jobOf x ≡ gets sources (jobOf j) r (valueIn v) (v .source)) × (x .at ≡ next) ⌝ }
 {
     let i = r as usize;
@@ -95,8 +137,8 @@ pub fn gets(j: Job, next: u32, r: u8, v: Stored) -> Job
 }
 
 // The step is done, and register r names the cell k, with the job's history.
-pub fn names(j: Job, next: u32, r: u8, k: usize) -> Job
-    requires { ⌜ (j .position < 65536) × (k ≤ 64) ⌝ }
+pub fn names(j: Job, next: usize, r: u8, k: usize) -> Job
+    requires { ⌜ (j .position < 65535) × (k ≤ 64) ⌝ }
     ensures { λ x. ⌜ (jobOf x ≡ gets sources (jobOf j) r (CellName k) (j .source)) × (x .at ≡ next) ⌝ }
 {
     let source = j.source;

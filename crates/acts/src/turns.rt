@@ -1,15 +1,18 @@
-// A step of a job at label l, with source h and these registers.
+// A step of a job at label l, with source h and these registers. Where a step reaches a cell, u is the register that names it.
 use crate::Effect;
 use crate::Near;
 use crate::Stored;
 use crate::effects;
 use crate::registers;
-use book::Step;
 use labels::Label;
 ghost use mathlib.Core.Path.{_≡_};
-ghost use Rattle.book.specs.declared.Step.the-variants.{Add, New, Read, Write, Relabel, Lower, Exec};
+ghost use Prim.Native.Nat.{_≤_};
+ghost use lib.ListN.{length};
+ghost use Rattle.book.specs.declared.Step.the-variants.{Add, New, Read, Write, Relabel, Exec};
+ghost use Rattle.book.specs.Records.{byteAt};
+ghost use Rattle.book.specs.Book.{stepAt};
 ghost use Rattle.machine.specs.Steps.{sum};
-ghost use Rattle.acts.specs.Views.{nearby, Takes};
+ghost use Rattle.acts.specs.Views.{storedOf, registerIn, nearby, targetIn, Takes, Gives, Changes, Launches, giveSort, lowerSort, storeSort, createSort, launchSort};
 
 // The sum modulo 4,294,967,296.
 fn add_numbers(x: u32, y: u32) -> u32
@@ -19,7 +22,7 @@ fn add_numbers(x: u32, y: u32) -> u32
 }
 
 fn add(l: Label, h: Label, registers: [Stored; 8], near: Near, r: u8, a: u8, b: u8) -> Effect
-    ensures { λ x. ⌜ Takes (nearby near) (Add r a b) l h registers x ⌝ }
+    ensures { λ x. ⌜ Takes giveSort (nearby near) (Add r a b) l h registers x ⌝ }
 {
     let u = registers::register_of(h, registers, a);
     let v = registers::register_of(h, registers, b);
@@ -42,33 +45,33 @@ fn add(l: Label, h: Label, registers: [Stored; 8], near: Near, r: u8, a: u8, b: 
 }
 
 fn new(l: Label, h: Label, registers: [Stored; 8], near: Near, r: u8, i: u8, a: u8) -> Effect
-    ensures { λ x. ⌜ Takes (nearby near) (New r i a) l h registers x ⌝ }
+    ensures { λ x. ⌜ Takes createSort (nearby near) (New r i a) l h registers x ⌝ }
 {
     let v = registers::register_of(h, registers, a);
     effects::make_cell(l, h, near, r, i, v)
 }
 
-fn read(l: Label, h: Label, registers: [Stored; 8], near: Near, r: u8, w: u8) -> Effect
-    ensures { λ x. ⌜ Takes (nearby near) (Read r w) l h registers x ⌝ }
+fn read(l: Label, h: Label, registers: [Stored; 8], near: Near, u: Stored, r: u8, w: u8) -> Effect
+    requires { ⌜ storedOf u ≡ registerIn h registers w ⌝ }
+    ensures { λ x. ⌜ Takes giveSort (nearby near) (Read r w) l h registers x ⌝ }
 {
-    let u = registers::register_of(h, registers, w);
     if u.kind != 1 {
         return Effect::Blocked;
     }
     let k = u.number;
     if (k as usize) < near.cells {
         let cell = near.cell;
-        let content = cell.content;
+        let content = registers::content_of(cell);
         let t = registers::acted(h, content);
         return Effect::Give(r, t);
     }
     Effect::Blocked
 }
 
-fn write(l: Label, h: Label, registers: [Stored; 8], near: Near, w: u8, a: u8) -> Effect
-    ensures { λ x. ⌜ Takes (nearby near) (Write w a) l h registers x ⌝ }
+fn write(l: Label, h: Label, registers: [Stored; 8], near: Near, u: Stored, w: u8, a: u8) -> Effect
+    requires { ⌜ storedOf u ≡ registerIn h registers w ⌝ }
+    ensures { λ x. ⌜ Takes storeSort (nearby near) (Write w a) l h registers x ⌝ }
 {
-    let u = registers::register_of(h, registers, w);
     if u.kind != 1 {
         return Effect::Blocked;
     }
@@ -76,20 +79,106 @@ fn write(l: Label, h: Label, registers: [Stored; 8], near: Near, w: u8, a: u8) -
     effects::write_cell(l, h, near, u.number, v)
 }
 
-fn relabel(l: Label, h: Label, registers: [Stored; 8], near: Near, w: u8, o: Label) -> Effect
-    ensures { λ x. ⌜ Takes (nearby near) (Relabel w o) l h registers x ⌝ }
+fn relabel(
+    l: Label,
+    h: Label,
+    registers: [Stored; 8],
+    near: Near,
+    u: Stored,
+    w: u8,
+    o: Label,
+) -> Effect
+    requires { ⌜ storedOf u ≡ registerIn h registers w ⌝ }
+    ensures { λ x. ⌜ Takes storeSort (nearby near) (Relabel w o) l h registers x ⌝ }
 {
-    let u = registers::register_of(h, registers, w);
     if u.kind != 1 {
         return Effect::Blocked;
     }
     effects::relabel_cell(l, h, near, u.number, o)
 }
 
-// The label is lowered, and appended to the history.
-fn lower(l: Label, h: Label, registers: [Stored; 8], near: Near, q: Label) -> Effect
-    ensures { λ x. ⌜ Takes (nearby near) (Lower q) l h registers x ⌝ }
+fn exec(l: Label, h: Label, registers: [Stored; 8], near: Near, u: Stored, w: u8) -> Effect
+    requires { ⌜ storedOf u ≡ registerIn h registers w ⌝ }
+    ensures { λ x. ⌜ Takes launchSort (nearby near) (Exec w) l h registers x ⌝ }
 {
+    if u.kind != 1 {
+        return Effect::Blocked;
+    }
+    effects::exec_cell(l, h, near, u.number)
+}
+
+// The step at an offset, where it gives a register a value: put, name, code, add, read.
+pub fn give(
+    s: &[u8],
+    o: usize,
+    l: Label,
+    h: Label,
+    registers: [Stored; 8],
+    near: Near,
+    u: Stored,
+) -> Effect
+    requires { ⌜ Gives (byteAt (now s) o) × (o ≤ length (now s)) × (storedOf u ≡ targetIn (stepAt (now s) o) h registers) ⌝ }
+    ensures { λ x. ⌜ Takes giveSort (nearby near) (stepAt (now (s .entry)) o) l h registers x ⌝ }
+{
+    let k = book::byte(s, o);
+    let r = book::byte(s, o + 1);
+    if k == 64 {
+        let number = book::number(s, o + 2);
+        return registers::given(r, 0, number, h);
+    }
+    let y = book::byte(s, o + 2);
+    if k == 65 {
+        return registers::given(r, 1, y as u32, h);
+    }
+    if k == 66 {
+        return registers::given(r, 2, y as u32, h);
+    }
+    if k == 67 {
+        let z = book::byte(s, o + 3);
+        return add(l, h, registers, near, r, y, z);
+    }
+    read(l, h, registers, near, u, r, y)
+}
+
+// The same where it is new.
+pub fn create(s: &[u8], o: usize, l: Label, h: Label, registers: [Stored; 8], near: Near) -> Effect
+    requires { ⌜ (byteAt (now s) o ≡ 68) × (o ≤ length (now s)) ⌝ }
+    ensures { λ x. ⌜ Takes createSort (nearby near) (stepAt (now (s .entry)) o) l h registers x ⌝ }
+{
+    let r = book::byte(s, o + 1);
+    let i = book::byte(s, o + 2);
+    let a = book::byte(s, o + 3);
+    new(l, h, registers, near, r, i, a)
+}
+
+// Where it changes a cell: write, relabel.
+pub fn change(
+    s: &[u8],
+    o: usize,
+    l: Label,
+    h: Label,
+    registers: [Stored; 8],
+    near: Near,
+    u: Stored,
+) -> Effect
+    requires { ⌜ Changes (byteAt (now s) o) × (o ≤ length (now s)) × (storedOf u ≡ targetIn (stepAt (now s) o) h registers) ⌝ }
+    ensures { λ x. ⌜ Takes storeSort (nearby near) (stepAt (now (s .entry)) o) l h registers x ⌝ }
+{
+    let k = book::byte(s, o);
+    let w = book::byte(s, o + 1);
+    let y = book::byte(s, o + 2);
+    if k == 70 {
+        return write(l, h, registers, near, u, w, y);
+    }
+    relabel(l, h, registers, near, u, w, Label(y))
+}
+
+// Where it lowers the label, and appends it to the history.
+pub fn lower(s: &[u8], o: usize, l: Label, h: Label, registers: [Stored; 8], near: Near) -> Effect
+    requires { ⌜ (byteAt (now s) o ≡ 72) × (o ≤ length (now s)) ⌝ }
+    ensures { λ x. ⌜ Takes lowerSort (nearby near) (stepAt (now (s .entry)) o) l h registers x ⌝ }
+{
+    let q = Label(book::byte(s, o + 1));
     if l.reaches(q) {
         let source = h.lower_of(q);
         return Effect::Lower(q, source);
@@ -97,52 +186,23 @@ fn lower(l: Label, h: Label, registers: [Stored; 8], near: Near, q: Label) -> Ef
     Effect::Blocked
 }
 
-fn exec(l: Label, h: Label, registers: [Stored; 8], near: Near, w: u8) -> Effect
-    ensures { λ x. ⌜ Takes (nearby near) (Exec w) l h registers x ⌝ }
+// Where it starts a job: start, exec.
+pub fn launch(
+    s: &[u8],
+    o: usize,
+    l: Label,
+    h: Label,
+    registers: [Stored; 8],
+    near: Near,
+    u: Stored,
+) -> Effect
+    requires { ⌜ Launches (byteAt (now s) o) × (o ≤ length (now s)) × (storedOf u ≡ targetIn (stepAt (now s) o) h registers) ⌝ }
+    ensures { λ x. ⌜ Takes launchSort (nearby near) (stepAt (now (s .entry)) o) l h registers x ⌝ }
 {
-    let u = registers::register_of(h, registers, w);
-    if u.kind != 1 {
-        return Effect::Blocked;
+    let k = book::byte(s, o);
+    let x = book::byte(s, o + 1);
+    if k == 73 {
+        return effects::start_job(l, h, near, x as u32);
     }
-    effects::exec_cell(l, h, near, u.number)
-}
-
-// A step.
-pub fn take_step(p: Step, l: Label, h: Label, registers: [Stored; 8], near: Near) -> Effect
-    ensures { λ x. ⌜ Takes (nearby near) p l h registers x ⌝ }
-{
-    match p {
-        Step::Put(r, x) => Effect::Give(
-            r,
-            Stored {
-                number: x,
-                kind: 0,
-                source: h,
-            },
-        ),
-        Step::Name(r, k) => Effect::Give(
-            r,
-            Stored {
-                number: k as u32,
-                kind: 1,
-                source: h,
-            },
-        ),
-        Step::Code(r, b) => Effect::Give(
-            r,
-            Stored {
-                number: b as u32,
-                kind: 2,
-                source: h,
-            },
-        ),
-        Step::Add(r, a, b) => add(l, h, registers, near, r, a, b),
-        Step::New(r, i, a) => new(l, h, registers, near, r, i, a),
-        Step::Read(r, w) => read(l, h, registers, near, r, w),
-        Step::Write(w, a) => write(l, h, registers, near, w, a),
-        Step::Relabel(w, o) => relabel(l, h, registers, near, w, o),
-        Step::Lower(q) => lower(l, h, registers, near, q),
-        Step::Start(b) => effects::start_job(l, h, near, b as u32),
-        Step::Exec(w) => exec(l, h, registers, near, w),
-    }
+    exec(l, h, registers, near, u, x)
 }

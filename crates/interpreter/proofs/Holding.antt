@@ -1,10 +1,10 @@
 -- The arrays after an event hold the state after it: one law for each array that is written.
---     holds-job, holds-store, holds-create, holds-launch
+--     holds-entry, holds-job, holds-store, holds-create, holds-launch
 -- Assumes nothing.
 use mathlib.Core.Path.{_≡_, refl, ap, _∙_}
 use mathlib.Core.Bool.{Bool, true, false}
 use mathlib.Core.List.{List, [], _∷_, _++_, map}
-use Prim.Native.Nat.{ℕ, suc, _+_, _<_, _≤_}
+use Prim.Native.Nat.{ℕ, zero, suc, _+_, _-_, _<_, _≤_}
 use native.Mathlib.Omega.{arith}
 use lib.Dec.{eqb}
 use lib.ListN.{length, take, getD, set, length-set}
@@ -22,16 +22,29 @@ use Rattle.interpreter.specs.Loop.{Placed, Holds}
 use Rattle.interpreter.proofs.Arrays.{front-set, front-push, other-stays}
 use Rattle.interpreter.proofs.Lands.{withJob}
 
+-- what is no longer the last stands before it
+behind : (m k : ℕ) → k < m + 1 → (m ≡ k → ⊥) → k < m
+behind m k h n = go (m - k) refl
+  where
+    go : (i : ℕ) → m - k ≡ i → k < m
+    go zero e = absurd (n (omega arith))
+    go (suc i) e = omega arith
+
 -- one job is written
-placed-set : (b : List ℕ) (jobs : List Job) (m i : ℕ) (j : Job) → i < length jobs → Placed b j → ((k : ℕ) (d : Job) → k < m → Placed b (getD jobs k d))
-    → (k : ℕ) (d : Job) → k < m → Placed b (getD (set jobs i j) k d)
+placed-set : (b : List ℕ) (jobs : List Job) (m i : ℕ) (j : Job) → i < length jobs → Placed b j
+    → ((k : ℕ) (d : Job) → k < m → (i ≡ k → ⊥) → Placed b (getD jobs k d)) → (k : ℕ) (d : Job) → k < m → Placed b (getD (set jobs i j) k d)
 placed-set b jobs m i j h p f k d r = go (eqb i k) refl
   where
     go : (t : Bool) → eqb i k ≡ t → Placed b (getD (set jobs i j) k d)
     go true e = rw (← eqb-true i k e, getD-set-same jobs i j d h) p
-    go false e = rw (other-stays jobs i k j d (eqb-false i k e)) (f k d r)
+    go false e = rw (other-stays jobs i k j d (eqb-false i k e)) (f k d r (eqb-false i k e))
 
-module _ (b : List ℕ) (s : State Label) (cells : List Cell) (n : ℕ) (jobs : List Job) (m : ℕ) (h : Holds b s cells n jobs m) where
+-- the entry that is written, by another name
+pub holds-entry : {b : List ℕ} {s : State Label} {n : ℕ} {jobs : List Job} {m : ℕ} (cells : List Cell) (c : Cell) (q k : ℕ) → q ≡ k
+    → Holds b s (set cells k c) n jobs m → Holds b s (set cells q c) n jobs m
+holds-entry cells c q k e h = rw e h
+
+module _ {b : List ℕ} {s : State Label} {cells : List Cell} {n : ℕ} {jobs : List Job} {m : ℕ} (h : Holds b s cells n jobs m) where
   pub holds-job : (i : ℕ) (j : Job) → i < m → Placed b j → Holds b (withJob s i j) cells n (set jobs i j) m
   holds-job i j r p =
       record {
@@ -42,7 +55,7 @@ module _ (b : List ℕ) (s : State Label) (cells : List Cell) (n : ℕ) (jobs : 
         jobs-long = length-set jobs i j ∙ h .jobs-long;
         jobs-fit = h .jobs-fit;
         some-job = h .some-job;
-        placed = placed-set b jobs 64 i j (omega (arith, h .jobs-long, h .jobs-fit)) p (h .placed);
+        placed = placed-set b jobs m i j (omega (arith, h .jobs-long, h .jobs-fit)) p (λ k d r q. h .placed k d r);
       }
 
   module _ (c : Cell) where
@@ -92,5 +105,5 @@ module _ (b : List ℕ) (s : State Label) (cells : List Cell) (n : ℕ) (jobs : 
         jobs-long = length-set jobs m child ∙ h .jobs-long;
         jobs-fit = omega arith;
         some-job = omega arith;
-        placed = placed-set b jobs 64 m child (omega (arith, h .jobs-long)) pc (h .placed);
+        placed = placed-set b jobs (m + 1) m child (omega (arith, h .jobs-long)) pc (λ k d r q. h .placed k d (behind m k r q));
       }

@@ -122,7 +122,7 @@ module _ (b : List ℕ) (j : Job) (here : Placed b j) where
         }
 
 -- the arrays hold the state s; c is the cell that is looked up for k
-module _ (b : List ℕ) (s : State Label) (cells : List Cell) (n : ℕ) (jobs : List Job) (m : ℕ) (h : Holds b s cells n jobs m) where
+module _ {b : List ℕ} {s : State Label} {cells : List Cell} {n : ℕ} {jobs : List Job} {m : ℕ} (h : Holds b s cells n jobs m) where
   pub cells-in-use : length (s .cells) ≡ n
   cells-in-use = ap length (sym (h .cells-are)) ∙ front-long cellOf cells n (omega (arith, h .cells-long, h .cells-fit))
 
@@ -150,17 +150,17 @@ module _ (b : List ℕ) (s : State Label) (cells : List Cell) (n : ℕ) (jobs : 
   -- the step of job i, which is j
   module _ (i : ℕ) (d : Job) (r : i < m) where
     placed : Placed b (getD jobs i d)
-    placed = h .placed i d (omega (arith, r, h .jobs-fit))
+    placed = h .placed i d r
 
     pub step-none : stepFound b (getD jobs i d .at) ≡ NoStep → outcomeOf sources tableSize (parse b) s (StepOf i) ≡ unchanged finished s
     unfolding outcomeOf onSome
     step-none e = simp (job-there i d r, no-step b (getD jobs i d) placed e)
 
     module _ (p : Step) (o : ℕ) (e : stepFound b (getD jobs i d .at) ≡ StepThere p o) (dc c : Cell)
-        (ec : c ≡ getD cells (clamped (reachedIn p (getD jobs i d .source) (getD jobs i d .registers))) dc) (x : Effect)
-        (t : Takes (nearby (record { cell = c; cells = n; jobs = m })) p (getD jobs i d .label) (getD jobs i d .source) (getD jobs i d .registers) x) where
+        (ec : c ≡ getD cells (clamped (reachedIn p (getD jobs i d .source) (getD jobs i d .registers))) dc) (x : Effect) (f : ℕ)
+        (t : Takes f (nearby (record { cell = c; cells = n; jobs = m })) p (getD jobs i d .label) (getD jobs i d .source) (getD jobs i d .registers) x) where
       same : reachedBy p (jobOf (getD jobs i d)) ≡ reachedIn p (getD jobs i d .source) (getD jobs i d .registers)
-      same = reached-same p (getD jobs i d .label) (getD jobs i d .source) (getD jobs i d .registers) (getD jobs i d .block) (getD jobs i d .position)
+      same = reached-same p (getD jobs i d .source) (getD jobs i d .registers) (getD jobs i d .label) (getD jobs i d .block) (getD jobs i d .position)
 
       seen : Reached s (record { cell = c; cells = n; jobs = m }) cells-in-use jobs-in-use (reachedBy p (jobOf (getD jobs i d)))
       seen = rw same (reached _ dc c ec)
@@ -173,7 +173,7 @@ module _ (b : List ℕ) (s : State Label) (cells : List Cell) (n : ℕ) (jobs : 
       step-done g eg =
           simp (job-there i d r, step-some b (getD jobs i d) placed p o e)
           (sym (step-lands s (record { cell = c; cells = n; jobs = m }) cells-in-use jobs-in-use p (getD jobs i d .label) (getD jobs i d .source) (getD jobs i d .registers)
-          (getD jobs i d .block) (getD jobs i d .position) i x seen t)
+          (getD jobs i d .block) (getD jobs i d .position) i x f seen t)
           ∙ ap (λ (g : States.Job Label). landed s (record { cells = s .cells; jobs = set (s .jobs) i g }) (effectOf (reachedBy p (jobOf (getD jobs i d))) x)) (sym eg)
           ∙ ap (λ k. landed s (withJob s i g) (effectOf k x)) same
           ∙ from-landed s (withJob s i g) (reachedIn p (getD jobs i d .source) (getD jobs i d .registers)) x)
@@ -182,7 +182,7 @@ module _ (b : List ℕ) (s : State Label) (cells : List Cell) (n : ℕ) (jobs : 
       step-fits =
           rw (← same)
           (step-allowed s (record { cell = c; cells = n; jobs = m }) cells-in-use jobs-in-use p (getD jobs i d .label) (getD jobs i d .source) (getD jobs i d .registers)
-          (getD jobs i d .block) (getD jobs i d .position) x seen t)
+          (getD jobs i d .block) (getD jobs i d .position) x f seen t)
 
       -- a job that has moved on
       pub step-placed : (g : Job) → g .at ≡ o → jobOf g .block ≡ getD jobs i d .block → jobOf g .position ≡ suc (getD jobs i d .position) → Placed b g

@@ -6,6 +6,8 @@ pub mod Going
 pub mod Starts
 pub mod Narrows
 pub mod Playing
+pub mod Stepping
+pub mod Acting
 pub mod Opened
 pub mod Records
 pub mod Finishing

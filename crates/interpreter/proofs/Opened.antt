@@ -4,9 +4,9 @@
 -- Assumes nothing.
 use mathlib.Core.Path.{_≡_, refl, sym, ap, _∙_}
 use mathlib.Core.List.{List, [], _∷_, map, map-append}
-use Prim.Native.Nat.{ℕ, suc, _+_, _%_, _<_, _≤_}
+use Prim.Native.Nat.{ℕ, zero, suc, _+_, _<_, _≤_}
 use native.Mathlib.Omega.{arith}
-use lib.ListN.{getD-replicate, length, take, getD, set, replicate, length-set}
+use lib.ListN.{length, take, getD, set, replicate, length-set}
 use lib.Seq.{take-suc, take-suc-set, take-length}
 use Rattle.labels.specs.declared.Label.{Label}
 use Rattle.labels.specs.Labels.{label}
@@ -29,7 +29,7 @@ use Rattle.machine.specs.Events.{declared}
 use Rattle.acts.specs.declared.Cell.{Cell}
 use Rattle.acts.specs.declared.Job.{Job}
 use Rattle.acts.specs.Views.{cellOf, jobOf}
-use Rattle.interpreter.specs.Loop.{Holds, opening, startIn, openedBy, openedCells, First, Ready}
+use Rattle.interpreter.specs.Loop.{Placed, Holds, opening, startIn, openedBy, openedCells, Ready}
 use Rattle.interpreter.proofs.Starts.{placed-fresh}
 
 -- i cells are open
@@ -92,7 +92,7 @@ value-back (CodeName n) = refl
 
 -- for the code: the value v of a declared cell, by its kind
 pub opened-is : (d : Declared) (v : Value) (k n : ℕ) → v ≡ d .value → k ≡ kindOf v → n ≡ numberOf v
-    → _≡_ {A = Cell} (record { content = record { number = n; kind = k; source = label 15 }; shape = d .shape; label = d .label }) (openedBy d)
+    → _≡_ {A = Cell} (record { number = n; kind = k; source = label 15; shape = d .shape; label = d .label }) (openedBy d)
 opened-is d v k n ev ek en = rw (ek, en, ev) refl
 
 -- the declared cells, as the machine has them
@@ -110,23 +110,23 @@ module _ (b : List ℕ) (c : Label) (shapes offsets starts : List ℕ) (bound : 
   pub open-listed : Listed b offsets × (length offsets ≤ 64)
   open-listed = (rw (y .offsets-are) (listed b (readable b (y .readable))), omega (arith, few))
 
-  pub opened : (held : List Cell) (j : Job) → length held ≡ 64 → take (length offsets) held ≡ openedCells b offsets → First starts bound (length b) j
-      → Holds b (opening b) held (length offsets) (replicate 64 j) 1
+  -- job 0 stands first, before 63 that are not in use
+  pub opened : (held : List Cell) (none j : Job) (start : ℕ) → length held ≡ 64 → take (length offsets) held ≡ openedCells b offsets
+      → start ≡ startIn starts 0 (length b) → jobOf j ≡ freshJob sources 0 bound bound → j .at ≡ start → j .position ≡ 0 → j .block ≡ 0
+      → Holds b (opening b) held (length offsets) (set (replicate 64 none) 0 j) 1
   unfolding parse
-  opened held j long e f =
+  opened held none j start long e es ej ea ep eb =
       record {
         cells-are = ap (map cellOf) (e ∙ ap (openedCells b) (y .offsets-are)) ∙ declared-are b (cellsOf b);
         cells-long = long;
         cells-fit = omega (arith, few);
-        jobs-are = ap (λ (j : States.Job Label). j ∷ []) (f .job ∙ ap (λ (l : Label). freshJob sources 0 l l) (y .bound-is));
+        jobs-are = ap (λ (j : States.Job Label). j ∷ []) (ej ∙ ap (λ (l : Label). freshJob sources 0 l l) (y .bound-is));
         jobs-long = refl;
         jobs-fit = omega arith;
         some-job = omega arith;
-        placed = λ i d h. rw (getD-replicate 64 i j d h) (placed-fresh b (y .readable) starts (y .starts-are) j 0 (f .block) (f .position) (f .at));
+        placed = only;
       }
-
--- job 0, read back from an array that holds it twice
-pub first-job : (starts : List ℕ) (bound : Label) (end at : ℕ) (j : Job) (n : ℕ) (d : Job) → at ≡ startIn starts 0 end
-    → jobOf j ≡ freshJob sources 0 bound bound → j .at ≡ at → j .position ≡ 0 → j .block ≡ 0 → First starts bound end (getD (replicate 2 j) (n % 2) d)
-first-job starts bound end at j n d e ej ea ep eb =
-    rw (getD-replicate 2 (n % 2) j d (omega arith)) (record { job = ej; at = ea ∙ e; position = ep; block = eb })
+    where
+      only : (i : ℕ) (d : Job) → i < 1 → Placed b (getD (set (replicate 64 none) 0 j) i d)
+      only zero d h = placed-fresh b (y .readable) starts (y .starts-are) j 0 eb ep (ea ∙ es)
+      only (suc i) d h = absurd (omega arith)

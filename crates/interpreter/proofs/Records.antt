@@ -19,7 +19,7 @@ use Rattle.machine.specs.Records.{kindOf, numberOf, ValueRecord, CellRecord, Jo
 use Rattle.acts.specs.declared.Cell.{Cell}
 use Rattle.acts.specs.declared.Job.{Job}
 use Rattle.acts.specs.declared.Stored.{Stored}
-use Rattle.acts.specs.Views.{storedOf, cellOf, jobOf}
+use Rattle.acts.specs.Views.{storedOf, contentOf, cellOf, jobOf}
 use Rattle.acts.proofs.Acting.{number-is}
 use Rattle.tables.specs.Bytes.{storedRecord, cellRecordIn, jobRecordOf, cellTable, jobTable, savedCells, savedJobs}
 
@@ -46,8 +46,8 @@ pub saved-cells : (K : Book) (shapes : List ℕ) (l : List Cell) (hs : List (Sta
 unfolding savedCells
 saved-cells K shapes l hs are e =
     ap cellTable
-    (through cellOf (cellBy K) (cellRecordIn shapes) (λ c. ap (λ (x : Shape). record { shape = c .shape; trust = x .trust; label = c .label; value = storedRecord (c .content) }) (are (c .shape))
-    ∙ ap (λ (v : ValueRecord). record { shape = c .shape; trust = trustOf K (c .shape); label = c .label; value = v }) (stored-is (c .content))) l ∙ ap (map (cellBy K)) e
+    (through cellOf (cellBy K) (cellRecordIn shapes) (λ c. ap (λ (x : Shape). record { shape = c .shape; trust = x .trust; label = c .label; value = storedRecord (contentOf c) }) (are (c .shape))
+    ∙ ap (λ (v : ValueRecord). record { shape = c .shape; trust = trustOf K (c .shape); label = c .label; value = v }) (stored-is (contentOf c))) l ∙ ap (map (cellBy K)) e
     ∙ sym (through (cellImage source) (cellBy K) (cellRecord K) (λ c. refl) hs))
 
 job-is : (j : Job) → jobRecordOf j ≡ jobBy (jobOf j)

@@ -3,7 +3,6 @@
 --     Holds         the arrays hold a state
 --     startIn       where a block starts
 --     openedCells   the declared cells at the start
---     First         job 0 at the start
 --     Runnable      what a run that is not refused has
 --     Ready         what the loop asks for
 -- Assumes nothing.
@@ -24,7 +23,6 @@ use Rattle.book.specs.Outline.{shapeIn, startAt, outlineOf}
 use Rattle.book.specs.Asked.{Whole}
 use Rattle.machine.specs.States.{State}
 use Rattle.machine.specs.Histories.{sources}
-use Rattle.machine.specs.Acts.{freshJob}
 use Rattle.machine.specs.Records.{kindOf, numberOf}
 use Rattle.machine.specs.Events.{launchLabel, blockOf, freshState}
 use Rattle.events.specs.Bytes.{eventsIn, unplayable}
@@ -48,8 +46,7 @@ pub record Holds (b : List ℕ) (s : State Label) (cells : List Cell) (n : ℕ) 
   pub jobs-long : length jobs ≡ 64
   pub jobs-fit : m ≤ 64
   pub some-job : 0 < m
-  -- those that are not in use too
-  pub placed : (i : ℕ) (d : Job) → i < 64 → Placed b (getD jobs i d)
+  pub placed : (i : ℕ) (d : Job) → i < m → Placed b (getD jobs i d)
 
 -- the machine's state at the start, over sources
 abbrev pub opening : List ℕ → State Label
@@ -61,17 +58,10 @@ startIn starts x end = if ltb x (length starts) then getD starts x 0 else end
 
 -- a declared cell, as the run holds it: "Declared values have history 15."
 abbrev pub openedBy : Declared → Cell
-openedBy d = record { shape = d .shape; label = d .label; content = record { number = numberOf (d .value); kind = kindOf (d .value); source = label 15 } }
+openedBy d = record { number = numberOf (d .value); kind = kindOf (d .value); source = label 15; shape = d .shape; label = d .label }
 
 unfoldable pub openedCells : List ℕ → List ℕ → List Cell
 openedCells b os = map (λ o. openedBy (declaredAt b o)) os
-
--- job 0 at the start, by the table of the blocks' starts: "Job 0 runs block 0 at its bound, history that bound."
-pub record First (starts : List ℕ) (bound : Label) (end : ℕ) (j : Job) : Type 0 where
-  pub job : jobOf j ≡ freshJob sources 0 bound bound
-  pub at : j .at ≡ startIn starts 0 end
-  pub position : j .position ≡ 0
-  pub block : j .block ≡ 0
 
 -- a list of events, and memory for the tables and the answers: what refusals 9 to 11 do not hold of
 pub record Lent (list cells jobs answers : List ℕ) : Type 0 where

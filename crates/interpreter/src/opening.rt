@@ -1,8 +1,6 @@
 // The tables at the start of a run.
-use crate::play;
 use acts::Cell;
 use acts::Job;
-use acts::Stored;
 use book::CellAt;
 use book::Declared;
 use book::Value;
@@ -12,7 +10,7 @@ ghost use Prim.Native.Nat.{_≤_};
 ghost use lib.ListN.{length, take};
 ghost use Rattle.book.specs.Asked.{Listed};
 ghost use Rattle.machine.specs.Records.{kindOf, numberOf};
-ghost use Rattle.interpreter.specs.Loop.{openedBy, openedCells, First};
+ghost use Rattle.interpreter.specs.Loop.{openedBy, openedCells};
 
 fn kind_in(v: Value) -> u8
     ensures { λ r. ⌜ r ≡ kindOf v ⌝ }
@@ -43,11 +41,9 @@ fn open_cell(d: Declared) -> Cell
     let kind = kind_in(value);
     let number = number_in(value);
     Cell {
-        content: Stored {
-            number: number,
-            kind: kind,
-            source: Label(Job::TOP_LABEL),
-        },
+        number: number,
+        kind: kind,
+        source: Label(Job::TOP_LABEL),
         shape: d.shape,
         label: label,
     }
@@ -59,11 +55,9 @@ pub fn open_cells(book: &[u8], offsets: &[u16]) -> [Cell; Job::TABLE_SIZE]
     ensures { λ r. ⌜ take (length (now (offsets .entry))) r ≡ openedCells (now (book .entry)) (now (offsets .entry)) ⌝ }
 {
     let none = Cell {
-        content: Stored {
-            number: 0,
-            kind: 0,
-            source: Label(0),
-        },
+        number: 0,
+        kind: 0,
+        source: Label(0),
         shape: 0,
         label: Label(0),
     };
@@ -79,17 +73,4 @@ pub fn open_cells(book: &[u8], offsets: &[u16]) -> [Cell; Job::TABLE_SIZE]
         i = i + 1;
     }
     cells
-}
-
-// Job 0: block 0 at its bound, its history that bound. It is read back from an array at an index that the compiler does not know, so that
-// the table is filled with whole jobs; field by field that took a fifth of a short run.
-pub fn open_job(starts: &[u16], bound: Label, end: usize) -> Job
-    requires { ⌜ end ≤ 65535 ⌝ }
-    ensures { λ r. ⌜ First (now (starts .entry)) bound end r ⌝ }
-{
-    let at = play::start_of(starts, 0, end);
-    let job = Job::fresh(0, at, bound, bound);
-    let both = [job; 2];
-    let i = starts.len() % 2;
-    both[i]
 }

@@ -5,7 +5,6 @@ use acts::Effect;
 use acts::Job;
 use acts::Near;
 use book::Refusal;
-use book::StepAt;
 use labels::Label;
 ghost use mathlib.Core.Path.{_≡_};
 ghost use Prim.Native.Nat.{_≤_};
@@ -15,25 +14,18 @@ ghost use Rattle.interpreter.specs.Loop.{startIn, Ready};
 ghost use Rattle.interpreter.specs.Run.{runBy, ranOf};
 
 // Where a block starts in the book; past the blocks the book's end.
-pub fn start_of(starts: &[u16], block: u32, end: usize) -> u32
-    requires { ⌜ end ≤ 65535 ⌝ }
+pub fn start_of(starts: &[u16], block: u32, end: usize) -> usize
     ensures { λ r. ⌜ r ≡ startIn (now (starts .entry)) block end ⌝ }
 {
     let i = block as usize;
     if i < starts.len() {
-        return wide(starts[i]);
+        return book::offset_of(starts[i]);
     }
-    end as u32
+    end
 }
 
-// An offset, in the width that a job keeps it.
-fn wide(x: u16) -> u32
-    ensures { λ r. ⌜ r ≡ x ⌝ }
-{
-    x as u32
-}
-
-// Runs the events from the fresh state, and saves the tables. A step and an outsider's act have arms of their own.
+// Runs the events from the fresh state, and saves the tables. A step that is not answered at once is told apart by what it can do, so that each arm
+// has one effect to carry out; an outsider's act has an arm of its own.
 pub fn play(
     book: &[u8],
     c: Label,
@@ -51,83 +43,97 @@ pub fn play(
     ensures { λ r. ⌜ (r .cells ≤ 64) × (r .jobs ≤ 64) ⌝ }
 {
     let mut held = opening::open_cells(book, offsets);
-    let job = opening::open_job(starts, bound, book.len());
-    let mut begun = [job; Job::TABLE_SIZE];
+    let none = Job::fresh(0, 0, Label(0), Label(0));
+    let mut begun = [none; Job::TABLE_SIZE];
+    let first = Job::fresh(0, start_of(starts, 0, book.len()), bound, bound);
+    begun[0] = first;
     let mut n = offsets.len();
     let mut m: usize = 1;
     let mut o: usize = 0;
     let mut at: usize = 0;
     while o < list.len() {
-        let next = events::next_event(list, o);
+        let slot = at;
+        at = at + 1;
         let kind = list[o];
         if kind == 80 {
             let i = book::byte(list, o + 1) as usize;
-            o = next;
+            o = o + 2;
             if i < m {
+                let place = begun[i].at;
+                let past = book::step_end(book, place);
+                if past == 0 {
+                    answers[slot] = 2;
+                    continue;
+                }
+                let k = book::byte(book, place);
                 let j = begun[i];
-                let found = book::step_at(book, j.at as usize);
-                match found {
-                    StepAt::NoStep => {
-                        answers[at] = 2;
-                        at = at + 1;
+                let registers = j.registers;
+                let u = acts::target_of(book, place, j.source, registers);
+                let q = acts::clamp(u.number as usize);
+                let cell = held[q];
+                let near = Near {
+                    cell: cell,
+                    cells: n,
+                    jobs: m,
+                };
+                if k == 68 {
+                    let x = acts::create(book, place, j.label, j.source, registers, near);
+                    if let Effect::Create(r, d) = x {
+                        let t = acts::names(j, past, r, n);
+                        begun[i] = t;
+                        held[n] = d;
+                        n = n + 1;
+                        answers[slot] = 0;
+                    } else {
+                        answers[slot] = 1;
                     }
-                    StepAt::StepThere(p, after) => {
-                        let past = after as u32;
-                        let registers = j.registers;
-                        let k = acts::reached_by(p, j.source, registers);
-                        let q = acts::clamp(k);
-                        let cell = held[q];
-                        let x = acts::take_step(
-                            p,
-                            j.label,
-                            j.source,
-                            registers,
-                            Near {
-                                cell: cell,
-                                cells: n,
-                                jobs: m,
-                            },
-                        );
-                        answers[at] = acts::answer_of(x);
-                        at = at + 1;
-                        match x {
-                            Effect::Blocked => {}
-                            Effect::Give(r, v) => {
-                                let t = acts::gets(j, past, r, v);
-                                begun[i] = t;
-                            }
-                            Effect::Lower(l, h) => {
-                                let t = acts::lowered(j, past, l, h);
-                                begun[i] = t;
-                            }
-                            Effect::Store(d) => {
-                                let t = acts::moved(j, past);
-                                begun[i] = t;
-                                held[q] = d;
-                            }
-                            Effect::Create(r, d) => {
-                                let t = acts::names(j, past, r, n);
-                                begun[i] = t;
-                                held[n] = d;
-                                n = n + 1;
-                            }
-                            Effect::Launch(b, l, h) => {
-                                let t = acts::moved(j, past);
-                                begun[i] = t;
-                                let child = Job::fresh(b, start_of(starts, b, book.len()), l, h);
-                                begun[m] = child;
-                                m = m + 1;
-                            }
-                        }
+                } else if k < 70 {
+                    let x = acts::give(book, place, j.label, j.source, registers, near, u);
+                    if let Effect::Give(r, v) = x {
+                        let t = acts::gets(j, past, r, v);
+                        begun[i] = t;
+                        answers[slot] = 0;
+                    } else {
+                        answers[slot] = 1;
+                    }
+                } else if k < 72 {
+                    let x = acts::change(book, place, j.label, j.source, registers, near, u);
+                    if let Effect::Store(d) = x {
+                        let t = acts::moved(j, past);
+                        begun[i] = t;
+                        held[q] = d;
+                        answers[slot] = 0;
+                    } else {
+                        answers[slot] = 1;
+                    }
+                } else if k == 72 {
+                    let x = acts::lower(book, place, j.label, j.source, registers, near);
+                    if let Effect::Lower(l, h) = x {
+                        let t = acts::lowered(j, past, l, h);
+                        begun[i] = t;
+                        answers[slot] = 0;
+                    } else {
+                        answers[slot] = 1;
+                    }
+                } else {
+                    let x = acts::launch(book, place, j.label, j.source, registers, near, u);
+                    if let Effect::Launch(b, l, h) = x {
+                        let t = acts::moved(j, past);
+                        begun[i] = t;
+                        let child = Job::fresh(b, start_of(starts, b, book.len()), l, h);
+                        begun[m] = child;
+                        m = m + 1;
+                        answers[slot] = 0;
+                    } else {
+                        answers[slot] = 1;
                     }
                 }
             } else {
-                answers[at] = 3;
-                at = at + 1;
+                answers[slot] = 3;
             }
         } else {
             let e = events::event_at(list, o);
-            o = next;
+            o = events::next_event(list, o);
             if acts::is_such(c, shapes, starts.len(), n, e) {
                 let k = acts::aimed_at(e);
                 let q = acts::clamp(k);
@@ -140,8 +146,7 @@ pub fn play(
                         jobs: m,
                     },
                 );
-                answers[at] = acts::answer_of(x);
-                at = at + 1;
+                answers[slot] = acts::answer_of(x);
                 match x {
                     Effect::Blocked => {}
                     Effect::Give(_, _) => {}
@@ -160,13 +165,18 @@ pub fn play(
                     }
                 }
             } else {
-                answers[at] = 3;
-                at = at + 1;
+                answers[slot] = 3;
             }
         }
     }
     tables::save_cells(held, n, shapes, cells);
-    tables::save_jobs(begun, m, jobs);
+    let mut y: usize = 0;
+    while y < m {
+        let j = begun[y];
+        tables::save_job(j, y, jobs);
+        y = y + 1;
+    }
+    tables::clear_from(jobs, m * 52);
     Ran {
         refusal: Refusal::Passed,
         cells: n,

@@ -1,6 +1,7 @@
 -- Laws of a job's registers and of the two tables, as their loops go through them.
 --     RegistersIn, register-saves      i of the eight registers are in a job's bytes, behind the four of d
 --     CellsIn, cell-saves              i of the first n cells are in the table of cells
+--     job-saved                        a job is in its place
 --     JobsIn, job-saves                i of the first n jobs are in the table of jobs
 -- Assumes nothing.
 use mathlib.Core.Path.{_≡_, refl, sym, ap, _∙_}
@@ -15,7 +16,7 @@ use Rattle.acts.specs.declared.Stored.{Stored}
 use Rattle.acts.specs.declared.Cell.{Cell}
 use Rattle.acts.specs.declared.Job.{Job}
 use Rattle.tables.specs.Bytes.{valueBytes, cellBytes, jobBytes, packed, storedRecord, trustedRecord, cellRecordIn, jobRecordOf, cellTable, jobTable, savedCells, savedJobs}
-use Rattle.tables.specs.Asked.{put, cleared, Narrow, NarrowJobs}
+use Rattle.tables.specs.Asked.{put, cleared, Narrow, NarrowJobs, Saved}
 use Rattle.tables.proofs.Filling.{Filled, filled-start, filled-on, filled-whole, Saving, saving-start, saving-on, saving-end}
 
 pub record RegistersIn (d : List ℕ) (registers : List Stored) (out : List ℕ) (i : ℕ) : Type 0 where
@@ -85,25 +86,38 @@ module _ (table : List ℕ) (cells : List Cell) (n : ℕ) (out : List ℕ) where
 
 pub ruleset cell-saves = (cells-start, cells-on, cells-end)
 
+-- its bytes are put where they belong
+pub job-saved : (j : Job) (i : ℕ) (before after b : List ℕ) → b ≡ jobBytes (jobRecordOf j) → length b ≡ 52 → after ≡ put before (i * 52) b
+    → Saved j i before after
+job-saved j i before after b eb l e = record { is = rw eb at e; long = rw eb at l }
+
 pub record JobsIn (jobs : List Job) (n : ℕ) (out : List ℕ) (i : ℕ) : Type 0 where
   pub saving : Saving jobRecordOf jobBytes 52 3328 jobs n out i
   pub narrow : NarrowJobs jobs n
+  pub few : length jobs ≡ 64
 
 module _ (jobs : List Job) (n : ℕ) (out : List ℕ) where
   pub jobs-start : n ≤ 64 → length jobs ≡ 64 → length out ≡ 3328 → NarrowJobs jobs n → JobsIn jobs n out 0
-  jobs-start h e g k = record { saving = saving-start jobRecordOf jobBytes 52 3328 jobs n out (omega arith) (omega arith) g; narrow = k }
+  jobs-start h e g k = record { saving = saving-start jobRecordOf jobBytes 52 3328 jobs n out (omega arith) (omega arith) g; narrow = k; few = e }
 
   module _ (i : ℕ) (s : JobsIn jobs n out i) where
     pub jobs-narrow : (z : Job) → i < n → Narrow (getD jobs i z)
     jobs-narrow z h = s .narrow .each i z h
 
-    pub jobs-on : (z : Job) (b new : List ℕ) → i < n → b ≡ jobBytes (jobRecordOf (getD jobs i z)) → length b ≡ 52 → new ≡ put out (i * 52) b
-        → length new ≡ length out → JobsIn jobs n new (i + 1)
-    jobs-on z b new h eb l e g =
-        record { saving = saving-on jobRecordOf jobBytes 52 3328 jobs n out i (s .saving) z b new h eb l e g; narrow = s .narrow }
+    -- an entry inside the table
+    pub jobs-room : i < n → (i < 64) × (length out ≡ 3328)
+    jobs-room h = (omega (arith, s .saving .room, s .few), s .saving .long)
+
+    pub jobs-on : (z : Job) (new : List ℕ) → i < n → Saved (getD jobs i z) i out new → length new ≡ length out → JobsIn jobs n new (i + 1)
+    jobs-on z new h e g =
+        record {
+          saving = saving-on jobRecordOf jobBytes 52 3328 jobs n out i (s .saving) z (jobBytes (jobRecordOf (getD jobs i z))) new h refl (e .long) (e .is) g;
+          narrow = s .narrow;
+          few = s .few;
+        }
 
     pub jobs-end : (new : List ℕ) → n ≤ i → new ≡ cleared out (n * 52) → new ≡ savedJobs (take n jobs)
     unfolding savedJobs jobTable
     jobs-end new h e = saving-end jobRecordOf jobBytes 52 3328 jobs n out i (s .saving) new h e
 
-pub ruleset job-saves = (jobs-start, jobs-narrow, jobs-on, jobs-end)
+pub ruleset job-saves = (jobs-start, jobs-narrow, jobs-room, jobs-on, jobs-end)

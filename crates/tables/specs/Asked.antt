@@ -2,11 +2,14 @@
 --     put                    a list from an index on
 --     cleared                zeros from an index on
 --     Narrow, NarrowJobs     a job whose block and position are bytes; the first m of an array
+--     Saved                  a job is entry i of a table
 -- Assumes nothing.
-use Prim.Native.Nat.{ℕ, _+_, _-_, _<_}
+use Prim.Native.Nat.{ℕ, _+_, _*_, _-_, _<_}
+use mathlib.Core.Path.{_≡_}
 use mathlib.Core.List.{List, _++_}
 use lib.ListN.{length, take, drop, replicate, getD}
 use Rattle.acts.specs.declared.Job.{Job}
+use Rattle.tables.specs.Bytes.{jobBytes, jobRecordOf}
 
 abbrev pub put : List ℕ → ℕ → List ℕ → List ℕ
 put d at s = take at d ++ s ++ drop (at + length s) d
@@ -20,3 +23,7 @@ pub record Narrow (j : Job) : Type 0 where
 
 pub record NarrowJobs (jobs : List Job) (m : ℕ) : Type 0 where
   pub each : (i : ℕ) (d : Job) → i < m → Narrow (getD jobs i d)
+
+pub record Saved (j : Job) (i : ℕ) (before after : List ℕ) : Type 0 where
+  pub is : after ≡ put before (i * 52) (jobBytes (jobRecordOf j))
+  pub long : length (jobBytes (jobRecordOf j)) ≡ 52

@@ -12,7 +12,7 @@ use Rattle.machine.specs.Records.{kindOf, ValueRecord, CellRecord, JobRecord}
 use Rattle.acts.specs.declared.Stored.{Stored}
 use Rattle.acts.specs.declared.Cell.{Cell}
 use Rattle.acts.specs.declared.Job.{Job}
-use Rattle.acts.specs.Views.{valueIn}
+use Rattle.acts.specs.Views.{valueIn, contentOf}
 
 -- "a number is 4 bytes, little-endian"
 abbrev pub numberBytes : ℕ → List ℕ
@@ -49,7 +49,7 @@ abbrev pub storedRecord : Stored → ValueRecord
 storedRecord v = record { kind = kindOf (valueIn v); number = v .number; source = v .source }
 
 abbrev pub trustedRecord : Trust → Cell → CellRecord
-trustedRecord t c = record { shape = c .shape; trust = t; label = c .label; value = storedRecord (c .content) }
+trustedRecord t c = record { shape = c .shape; trust = t; label = c .label; value = storedRecord (contentOf c) }
 
 -- the trust "fixed by its shape", by the table of shapes
 abbrev pub cellRecordIn : List ℕ → Cell → CellRecord

@@ -4,10 +4,10 @@ use acts::Job;
 use acts::Stored;
 use labels::Trust;
 ghost use mathlib.Core.Path.{_≡_};
-ghost use Prim.Native.Nat.{_+_, _≤_};
+ghost use Prim.Native.Nat.{_+_, _≤_, _<_};
 ghost use lib.ListN.{length, take};
-ghost use Rattle.tables.specs.Bytes.{valueBytes, cellBytes, jobBytes, storedRecord, trustedRecord, jobRecordOf, savedCells, savedJobs};
-ghost use Rattle.tables.specs.Asked.{put, cleared, Narrow, NarrowJobs};
+ghost use Rattle.tables.specs.Bytes.{valueBytes, cellBytes, jobBytes, storedRecord, trustedRecord, jobRecordOf, savedCells};
+ghost use Rattle.tables.specs.Asked.{put, cleared, Narrow, Saved};
 
 // Copies src into dst, from index at on.
 fn copy_in(dst: &mut [u8], at: usize, src: &[u8])
@@ -20,7 +20,7 @@ fn copy_in(dst: &mut [u8], at: usize, src: &[u8])
 }
 
 // Zeros from index at on.
-fn clear_from(dst: &mut [u8], at: usize)
+pub fn clear_from(dst: &mut [u8], at: usize)
     requires { ⌜ at ≤ length (now dst) ⌝ }
     ensures { λ _. ⌜ now (dst .exit) ≡ cleared (now (dst .entry)) at ⌝ }
 {
@@ -49,7 +49,7 @@ fn value_bytes(v: Stored) -> [u8; 6]
 fn cell_bytes(c: Cell, trust: Trust) -> [u8; 9]
     ensures { λ r. ⌜ r ≡ cellBytes (trustedRecord trust c) ⌝ }
 {
-    let content = c.content;
+    let content = acts::content_of(c);
     let b = value_bytes(content);
     [
         c.shape,
@@ -101,17 +101,11 @@ pub fn save_cells(cells: [Cell; Job::TABLE_SIZE], n: usize, shapes: &[u8], out: 
     clear_from(out, n * 9);
 }
 
-// The first m jobs as a table.
-pub fn save_jobs(jobs: [Job; Job::TABLE_SIZE], m: usize, out: &mut [u8])
-    requires { ⌜ (m ≤ 64) × (length (now out) ≡ 3328) × NarrowJobs jobs m ⌝ }
-    ensures { λ _. ⌜ now (out .exit) ≡ savedJobs (take m jobs) ⌝ }
+// A job as entry i of a table. The run saves its jobs one by one: handed over together they would be copied.
+pub fn save_job(j: Job, i: usize, out: &mut [u8])
+    requires { ⌜ Narrow j × (i < 64) × (length (now out) ≡ 3328) ⌝ }
+    ensures { λ _. ⌜ Saved j i (now (out .entry)) (now (out .exit)) ⌝ }
 {
-    let mut i: usize = 0;
-    while i < m {
-        let j = jobs[i];
-        let b = job_bytes(j);
-        copy_in(out, i * 52, &b);
-        i = i + 1;
-    }
-    clear_from(out, m * 52);
+    let b = job_bytes(j);
+    copy_in(out, i * 52, &b);
 }

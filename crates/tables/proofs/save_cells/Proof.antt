@@ -14,44 +14,8 @@ abbrev μ-loop : tie.MeasureT-loop
 loop-holds : tie.Need-loop-holds Inv-loop μ-loop
 loop-holds c = search cell-saves
 
-mul-c : tie.Need-mul-c Inv-loop μ-loop
-mul-c c = search needs
-
-array-copy-out-c : tie.Need-array-copy-out-c Inv-loop μ-loop
-array-copy-out-c c = search needs
-
-shape-in-requires : tie.Need-shape-in-requires Inv-loop μ-loop
-shape-in-requires c κs = search needs
-
-cell-bytes-requires : tie.Need-cell-bytes-requires Inv-loop μ-loop
-cell-bytes-requires c κs = search needs
-
-mul-copy-in : tie.Need-mul-copy-in Inv-loop μ-loop
-mul-copy-in c = search needs
-
-slice-aggregate-copy-in : tie.Need-slice-aggregate-copy-in Inv-loop μ-loop
-slice-aggregate-copy-in c = search needs
-
-copy-in-requires : tie.Need-copy-in-requires Inv-loop μ-loop
-copy-in-requires c κs = search needs
-
-add-i : tie.Need-add-i Inv-loop μ-loop
-add-i c = search needs
-
-loop-less : tie.Need-loop-less Inv-loop μ-loop
-loop-less c = search needs
-
 loop-again : tie.Need-loop-again Inv-loop μ-loop
 loop-again c = search cell-saves
-
-mul-clear-from : tie.Need-mul-clear-from Inv-loop μ-loop
-mul-clear-from c = search needs
-
-clear-from-requires : tie.Need-clear-from-requires Inv-loop μ-loop
-clear-from-requires c κs = search needs
-
-same-length : tie.Need-same-length Inv-loop μ-loop
-same-length c = search needs
 
 returns : tie.Need-returns Inv-loop μ-loop
 returns c = search cell-saves
@@ -63,17 +27,17 @@ save-cells-spec =
     Inv-loop
     μ-loop
     loop-holds
-    mul-c
-    array-copy-out-c
-    shape-in-requires
-    cell-bytes-requires
-    mul-copy-in
-    slice-aggregate-copy-in
-    copy-in-requires
-    add-i
-    loop-less
+    (λ c. search needs)
+    (λ c. search needs)
+    (λ c κs. search needs)
+    (λ c κs. search needs)
+    (λ c. search needs)
+    (λ c. search needs)
+    (λ c κs. search needs)
+    (λ c. search needs)
+    (λ c. search needs)
     loop-again
-    mul-clear-from
-    clear-from-requires
-    same-length
+    (λ c. search needs)
+    (λ c κs. search needs)
+    (λ c. search needs)
     returns)

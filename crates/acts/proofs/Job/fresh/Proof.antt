@@ -4,11 +4,8 @@ use Rattle.acts.proofs.Values.{fresh-is}
 use Rattle.acts.proofs.Job.fresh.Statement.{statement}
 use Rattle.acts.proofs.Job.fresh.Tie as tie
 
-zero-with-requires : tie.Need-zero-with-requires
-zero-with-requires c κs = search needs
-
 returns : tie.Need-returns
 returns c = fresh-is _ _ _ _ _ (c .zero-with .ensures)
 
 pub fresh-spec : {M : Type 1} → statement M
-fresh-spec = tie.close (tie.spec zero-with-requires returns)
+fresh-spec = tie.close (tie.spec (λ c κs. search needs) returns)

@@ -4,39 +4,6 @@ use Rattle.acts.proofs.Such.{suches}
 use Rattle.acts.proofs.outsiders.is_such.Statement.{statement}
 use Rattle.acts.proofs.outsiders.is_such.Tie as tie
 
-enum-told : tie.Need-enum-told
-enum-told c = search needs
-
-enum-known-e : tie.Need-enum-known-e
-enum-known-e c = search needs
-
-is-such-write-requires : tie.Need-is-such-write-requires
-is-such-write-requires c κs = search needs
-
-enum-known-e-2 : tie.Need-enum-known-e-2
-enum-known-e-2 c = search needs
-
-is-such-relabel-requires : tie.Need-is-such-relabel-requires
-is-such-relabel-requires c κs = search needs
-
-enum-known-e-3 : tie.Need-enum-known-e-3
-enum-known-e-3 c = search needs
-
-is-such-new-requires : tie.Need-is-such-new-requires
-is-such-new-requires c κs = search needs
-
-enum-known-e-4 : tie.Need-enum-known-e-4
-enum-known-e-4 c = search needs
-
-is-such-number-requires : tie.Need-is-such-number-requires
-is-such-number-requires c κs = search needs
-
-enum-known-e-5 : tie.Need-enum-known-e-5
-enum-known-e-5 c = search needs
-
-is-such-number-requires-2 : tie.Need-is-such-number-requires-2
-is-such-number-requires-2 c κs = search needs
-
 returns : tie.Need-returns
 returns c = search (suches, needs)
 
@@ -59,17 +26,17 @@ pub is-such-spec : {M : Type 1} → statement M
 is-such-spec =
     tie.close
     (tie.spec
-    enum-told
-    enum-known-e
-    is-such-write-requires
-    enum-known-e-2
-    is-such-relabel-requires
-    enum-known-e-3
-    is-such-new-requires
-    enum-known-e-4
-    is-such-number-requires
-    enum-known-e-5
-    is-such-number-requires-2
+    (λ c. search needs)
+    (λ c. search needs)
+    (λ c κs. search needs)
+    (λ c. search needs)
+    (λ c κs. search needs)
+    (λ c. search needs)
+    (λ c κs. search needs)
+    (λ c. search needs)
+    (λ c κs. search needs)
+    (λ c. search needs)
+    (λ c κs. search needs)
     returns
     returns-2
     returns-3

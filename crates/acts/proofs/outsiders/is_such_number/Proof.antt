@@ -4,9 +4,6 @@ use Rattle.acts.proofs.Such.{suches}
 use Rattle.acts.proofs.outsiders.is_such_number.Statement.{statement}
 use Rattle.acts.proofs.outsiders.is_such_number.Tie as tie
 
-reaches-requires : tie.Need-reaches-requires
-reaches-requires c κs = search needs
-
 returns : tie.Need-returns
 returns c = search (suches, needs)
 
@@ -14,4 +11,4 @@ returns-2 : tie.Need-returns-2
 returns-2 c = search (suches, needs)
 
 pub is-such-number-spec : {M : Type 1} → statement M
-is-such-number-spec = tie.close (tie.spec reaches-requires returns returns-2)
+is-such-number-spec = tie.close (tie.spec (λ c κs. search needs) returns returns-2)

@@ -4,12 +4,6 @@ use Rattle.acts.proofs.Such.{suches}
 use Rattle.acts.proofs.outsiders.is_such_relabel.Statement.{statement}
 use Rattle.acts.proofs.outsiders.is_such_relabel.Tie as tie
 
-reaches-requires : tie.Need-reaches-requires
-reaches-requires c κs = search needs
-
-is-label-requires : tie.Need-is-label-requires
-is-label-requires c κs = search needs
-
 returns : tie.Need-returns
 returns c = search (suches, needs)
 
@@ -21,4 +15,4 @@ returns-3 c = search (suches, needs)
 
 pub is-such-relabel-spec : {M : Type 1} → statement M
 is-such-relabel-spec =
-    tie.close (tie.spec reaches-requires is-label-requires returns returns-2 returns-3)
+    tie.close (tie.spec (λ c κs. search needs) (λ c κs. search needs) returns returns-2 returns-3)

@@ -5,33 +5,6 @@ use Rattle.acts.proofs.Aiming.{aim-is}
 use Rattle.acts.proofs.reaching.aimed_at.Statement.{statement}
 use Rattle.acts.proofs.reaching.aimed_at.Tie as tie
 
-enum-told : tie.Need-enum-told
-enum-told c = search needs
-
-enum-known-e : tie.Need-enum-known-e
-enum-known-e c = search needs
-
-cast-result : tie.Need-cast-result
-cast-result c = search needs
-
-enum-known-e-2 : tie.Need-enum-known-e-2
-enum-known-e-2 c = search needs
-
-cast-result-2 : tie.Need-cast-result-2
-cast-result-2 c = search needs
-
-enum-told-2 : tie.Need-enum-told-2
-enum-told-2 c = search needs
-
-enum-known-e-3 : tie.Need-enum-known-e-3
-enum-known-e-3 c = search needs
-
-cast-result-3 : tie.Need-cast-result-3
-cast-result-3 c = search needs
-
-enum-told-3 : tie.Need-enum-told-3
-enum-told-3 c = search needs
-
 returns : tie.Need-returns
 unfolding aimedAt
 returns c = search (aim-is, needs)
@@ -60,15 +33,15 @@ pub aimed-at-spec : {M : Type 1} → statement M
 aimed-at-spec =
     tie.close
     (tie.spec
-    enum-told
-    enum-known-e
-    cast-result
-    enum-known-e-2
-    cast-result-2
-    enum-told-2
-    enum-known-e-3
-    cast-result-3
-    enum-told-3
+    (λ c. search needs)
+    (λ c. search needs)
+    (λ c. search needs)
+    (λ c. search needs)
+    (λ c. search needs)
+    (λ c. search needs)
+    (λ c. search needs)
+    (λ c. search needs)
+    (λ c. search needs)
     returns
     returns-2
     returns-3

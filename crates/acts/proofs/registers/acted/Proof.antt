@@ -4,11 +4,8 @@ use Rattle.acts.proofs.Values.{values}
 use Rattle.acts.proofs.registers.acted.Statement.{statement}
 use Rattle.acts.proofs.registers.acted.Tie as tie
 
-lower-of-requires : tie.Need-lower-of-requires
-lower-of-requires c κs = search needs
-
 returns : tie.Need-returns
 returns c = search (values, needs)
 
 pub acted-spec : {M : Type 1} → statement M
-acted-spec = tie.close (tie.spec lower-of-requires returns)
+acted-spec = tie.close (tie.spec (λ c κs. search needs) returns)

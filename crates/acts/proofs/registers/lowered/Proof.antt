@@ -4,11 +4,8 @@ use Rattle.acts.proofs.Values.{changes}
 use Rattle.acts.proofs.registers.lowered.Statement.{statement}
 use Rattle.acts.proofs.registers.lowered.Tie as tie
 
-add-t : tie.Need-add-t
-add-t c = search needs
-
 returns : tie.Need-returns
 returns c = search (changes, needs)
 
 pub lowered-spec : {M : Type 1} → statement M
-lowered-spec = tie.close (tie.spec add-t returns)
+lowered-spec = tie.close (tie.spec (λ c. search needs) returns)

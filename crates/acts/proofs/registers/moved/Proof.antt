@@ -4,11 +4,8 @@ use Rattle.acts.proofs.Values.{changes}
 use Rattle.acts.proofs.registers.moved.Statement.{statement}
 use Rattle.acts.proofs.registers.moved.Tie as tie
 
-add-t : tie.Need-add-t
-add-t c = search needs
-
 returns : tie.Need-returns
 returns c = search (changes, needs)
 
 pub moved-spec : {M : Type 1} → statement M
-moved-spec = tie.close (tie.spec add-t returns)
+moved-spec = tie.close (tie.spec (λ c. search needs) returns)

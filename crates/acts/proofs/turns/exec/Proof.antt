@@ -4,17 +4,11 @@ use Rattle.acts.proofs.Taking.{throughs}
 use Rattle.acts.proofs.turns.exec.Statement.{statement}
 use Rattle.acts.proofs.turns.exec.Tie as tie
 
-register-of-requires : tie.Need-register-of-requires
-register-of-requires c κs = search needs
-
 returns : tie.Need-returns
 returns c = search (throughs, needs)
-
-exec-cell-requires : tie.Need-exec-cell-requires
-exec-cell-requires c κs = search needs
 
 returns-2 : tie.Need-returns-2
 returns-2 c = search (throughs, needs)
 
 pub exec-spec : {M : Type 1} → statement M
-exec-spec = tie.close (tie.spec register-of-requires returns exec-cell-requires returns-2)
+exec-spec = tie.close (tie.spec returns (λ c κs. search needs) returns-2)

@@ -5,14 +5,8 @@ use Rattle.interpreter.proofs.Opened.{opened-is}
 use Rattle.interpreter.proofs.opening.open_cell.Statement.{statement}
 use Rattle.interpreter.proofs.opening.open_cell.Tie as tie
 
-kind-in-requires : tie.Need-kind-in-requires
-kind-in-requires c κs = search needs
-
-number-in-requires : tie.Need-number-in-requires
-number-in-requires c κs = search needs
-
 returns : tie.Need-returns
 returns c = opened-is (c .before .before .before .args .d) _ _ _ refl (c .before .kind-in .ensures) (c .number-in .ensures)
 
 pub open-cell-spec : {M : Type 1} → statement M
-open-cell-spec = tie.close (tie.spec kind-in-requires number-in-requires returns)
+open-cell-spec = tie.close (tie.spec (λ c κs. search needs) (λ c κs. search needs) returns)

@@ -15,41 +15,14 @@ abbrev μ-loop : tie.MeasureT-loop
 loop-holds : tie.Need-loop-holds Inv-loop μ-loop
 loop-holds c = search (fills, needs)
 
-mul-offset-of : tie.Need-mul-offset-of Inv-loop μ-loop
-mul-offset-of c = search needs
-
-shared-slice-read-offset-of : tie.Need-shared-slice-read-offset-of Inv-loop μ-loop
-shared-slice-read-offset-of c = search needs
-
-offset-of-requires : tie.Need-offset-of-requires Inv-loop μ-loop
-offset-of-requires c κs = search needs
-
-cell-at-requires : tie.Need-cell-at-requires Inv-loop μ-loop
-cell-at-requires c κs = search needs
-
-enum-known-d : tie.Need-enum-known-d Inv-loop μ-loop
-enum-known-d c = search needs
-
-enum-told : tie.Need-enum-told Inv-loop μ-loop
-enum-told c = search needs
-
 returns : tie.Need-returns Inv-loop μ-loop
 returns c = search (fills, needs)
-
-open-cell-requires : tie.Need-open-cell-requires Inv-loop μ-loop
-open-cell-requires c κs = search needs
 
 mul-cells : tie.Need-mul-cells Inv-loop μ-loop
 mul-cells c = search (fills, needs)
 
 array-set-from-cells : tie.Need-array-set-from-cells Inv-loop μ-loop
 array-set-from-cells c = search (fills, needs)
-
-add-i : tie.Need-add-i Inv-loop μ-loop
-add-i c = search needs
-
-loop-less : tie.Need-loop-less Inv-loop μ-loop
-loop-less c = search needs
 
 loop-again : tie.Need-loop-again Inv-loop μ-loop
 loop-again c = search (fills, needs)
@@ -64,17 +37,17 @@ open-cells-spec =
     Inv-loop
     μ-loop
     loop-holds
-    mul-offset-of
-    shared-slice-read-offset-of
-    offset-of-requires
-    cell-at-requires
-    enum-known-d
-    enum-told
+    (λ c. search needs)
+    (λ c. search needs)
+    (λ c κs. search needs)
+    (λ c κs. search needs)
+    (λ c. search needs)
+    (λ c. search needs)
     returns
-    open-cell-requires
+    (λ c κs. search needs)
     mul-cells
     array-set-from-cells
-    add-i
-    loop-less
+    (λ c. search needs)
+    (λ c. search needs)
     loop-again
     returns-2)
