@@ -1,22 +1,25 @@
 -- Laws of the acts, for the code: an act sees of the cells only the one that it reaches.
 --     not-plain, .., kinds                        a value by its kind
+--     opens                                       whether the cell can be written
 --     writes, relabels, makes, starts, execs      one set for each act
 -- Assumes nothing.
-use mathlib.Core.Path.{_≡_, refl}
+use mathlib.Core.Path.{_≡_, refl, sym, _∙_}
 use mathlib.Core.Bool.{Bool, true, false}
 use mathlib.Core.Option.{none, some}
 use Prim.Native.Nat.{ℕ, zero, suc, _<_, _≤_}
 use native.Mathlib.Omega.{arith}
+use lib.Dec.{ltb}
 use lib.ListN.{replicate, getElem?, length-replicate}
-use borrow.Author.Tests.{lt-ltb, le-ltb, ne-eqb}
+use borrow.Author.Tests.{lt-ltb, le-ltb, ltb-true, ltb-false, ne-eqb}
 use Rattle.labels.specs.declared.Label.{Label}
 use Rattle.labels.specs.Labels.{label, lower, reaches}
 use Rattle.book.specs.declared.Value.the-variants.{Plain, CellName, CodeName}
 use Rattle.book.specs.Book.{valueOf}
 use Rattle.book.specs.Control.{both, onSome}
+use Rattle.book.proofs.Tests.{clash}
 use Rattle.machine.specs.Control.{given, onPlain, onCell, onCode}
 use Rattle.machine.specs.Histories.{sources}
-use Rattle.machine.specs.States.{Job, State}
+use Rattle.machine.specs.States.{Traced, Job, State}
 use Rattle.machine.specs.Acts.{Effect, blocked, store, create, launch, unless, isFree, acted, freshJob, execLabel, writing, relabelling, making, starting, executing}
 use Rattle.machine.specs.Records.{kindOf, numberOf}
 use Rattle.machine.specs.Events.{tableSize}
@@ -168,20 +171,38 @@ module _ (l h : Label) (y : Near) where
   nowhere : (k : ℕ) → y .cells ≤ k → getElem? (replicate (y .cells) (cellOf (y .cell))) k ≡ none
   nowhere k r = same-none (cellOf (y .cell)) (y .cells) k r
 
-  module _ (k : ℕ) (v : Stored) where
-    pub write-none : y .cells ≤ k → Does storeSort (nearby y) k (writing sources (nearby y) l h k (storedOf v)) Blocked
-    unfolding writing onSome
-    write-none r = is-blocked (simp (nowhere k r))
+  module _ (k : ℕ) where
+    pub open-in : (b : Bool) → k < y .cells → b ≡ reaches l (y .cell .label) → b ≡ both (ltb k (y .cells)) (reaches l (y .cell .label))
+    unfolding both
+    open-in b r e = e ∙ simp (lt-ltb _ _ r)
 
-    module _ (r : k < y .cells) (b : Bool) (eb : b ≡ reaches l (y .cell .label)) where
-      pub write-high : b ≡ false → Does storeSort (nearby y) k (writing sources (nearby y) l h k (storedOf v)) Blocked
-      unfolding writing onSome given
-      write-high f = is-blocked (simp (there k r, ← eb, f))
+    pub open-out : y .cells ≤ k → false ≡ both (ltb k (y .cells)) (reaches l (y .cell .label))
+    unfolding both
+    open-out r = simp (le-ltb _ _ r)
 
-      pub write-done : (x : Stored) (c : Cell) → b ≡ true → storedOf x ≡ acted sources h (storedOf v) → c ≡ cellWith x (y .cell .shape) (y .cell .label)
-          → Does storeSort (nearby y) k (writing sources (nearby y) l h k (storedOf v)) (Store c)
-      unfolding writing onSome given
-      write-done x c f e ec = is-store (rw ec (simp (there k r, ← eb, f, e)))
+  -- o: the cell is open
+  module _ (k : ℕ) (o : Bool) (eo : o ≡ both (ltb k (y .cells)) (reaches l (y .cell .label))) where
+    pub open-there : o ≡ true → (k < y .cells) × (reaches l (y .cell .label) ≡ true)
+    unfolding both
+    open-there f = go (ltb k (y .cells)) refl
+      where
+        go : (t : Bool) → ltb k (y .cells) ≡ t → (k < y .cells) × (reaches l (y .cell .label) ≡ true)
+        go true q = (ltb-true k (y .cells) q, sym (simp q at eo) ∙ f)
+        go false q = clash f (simp q at eo)
+
+    -- whatever is written
+    pub write-closed : (v : Traced Label) → o ≡ false → Does storeSort (nearby y) k (writing sources (nearby y) l h k v) Blocked
+    unfolding writing onSome given both
+    write-closed v f = go (ltb k (y .cells)) refl
+      where
+        go : (t : Bool) → ltb k (y .cells) ≡ t → Does storeSort (nearby y) k (writing sources (nearby y) l h k v) Blocked
+        go true q = let e : reaches l (y .cell .label) ≡ false = sym (simp q at eo) ∙ f in is-blocked (simp (there k (ltb-true k (y .cells) q), e))
+        go false q = is-blocked (simp (nowhere k (ltb-false k (y .cells) q)))
+
+    pub write-done : (v x : Stored) (c : Cell) → o ≡ true → storedOf x ≡ acted sources h (storedOf v) → c ≡ cellWith x (y .cell .shape) (y .cell .label)
+        → Does storeSort (nearby y) k (writing sources (nearby y) l h k (storedOf v)) (Store c)
+    unfolding writing onSome given
+    write-done v x c f e ec = let p = open-there f in is-store (rw ec (simp (there k (p .0), p .1, e)))
 
   module _ (k : ℕ) (o : Label) where
     pub relabel-none : y .cells ≤ k → Does storeSort (nearby y) k (relabelling sources (nearby y) l h k o) Blocked
@@ -251,7 +272,9 @@ module _ (l h : Label) (y : Near) where
             (simp (there k r, is-code blocked (launching l h y) (y .cell .number) (y .cell .kind) (rw ev at n))
             (simp (length-replicate (y .jobs) idle, lt-ltb _ _ f, et, (rw ev at es), el))))
 
-pub ruleset writes = (write-none, write-high, write-done)
+pub ruleset opens = (open-in, open-out)
+
+pub ruleset writes = (write-closed, write-done)
 
 pub ruleset relabels = (relabel-none, relabel-old, relabel-new, relabel-done)
 

@@ -6,6 +6,7 @@ use mathlib.Core.Path.{_≡_, refl, sym, ap, _∙_}
 use mathlib.Core.Bool.{Bool, true, false}
 use Prim.Native.Nat.{ℕ, _<_, _≤_}
 use mathlib.Core.List.{List}
+use lib.Dec.{ltb}
 use lib.ListN.{getElem?}
 use Rattle.labels.specs.declared.Label.{Label}
 use Rattle.labels.specs.Labels.{lower, reaches}
@@ -14,7 +15,7 @@ use Rattle.book.specs.declared.Step.{Step}
 use Rattle.book.specs.declared.Step.the-variants.{Put, Name, Code, Add, New, Read, Write, Relabel, Start, Exec}
 use Rattle.book.specs.declared.Step.the-variants as Step
 use Rattle.book.specs.Book.{valueOf}
-use Rattle.book.specs.Control.{onSome}
+use Rattle.book.specs.Control.{both, onSome}
 use Rattle.machine.specs.Control.{given}
 use Rattle.machine.specs.Histories.{sources}
 use Rattle.machine.specs.States.{Traced, State}
@@ -29,7 +30,7 @@ use Rattle.acts.specs.declared.Near.{Near}
 use Rattle.acts.specs.declared.Effect.{Effect}
 use Rattle.acts.specs.declared.Effect.the-variants.{Blocked, Give, Lower}
 use Rattle.acts.specs.Views.{valueIn, storedOf, contentOf, cellOf, actor, registerIn, nearby, effectOf, jobAfter, turnTaken, kept, settled, numberIn, targetBy, sortOf, waits, acts, Does, Makes, Takes, giveSort, lowerSort, storeSort, createSort, launchSort}
-use Rattle.acts.proofs.Acting.{same-some, same-none, not-plain, is-plain, not-cell, is-cell, number-is}
+use Rattle.acts.proofs.Acting.{write-closed, same-some, same-none, not-plain, is-plain, not-cell, is-cell, number-is}
 
 -- what the code hands back for a step p, by what its turn is
 module _ {s : State Label} {p : Step} {l h : Label} {rs : List Stored} where
@@ -155,6 +156,16 @@ module _ (l h : Label) (rs : List Stored) (y : Near) where
       unfolding turnOf
       write-no n = blocked-is (λ b i. no-cell b i (λ k. writing sources (nearby y) l h k (registerIn h rs a)) n)
 
+      pub write-shut : (o : Bool) → u .kind ≡ 1 → o ≡ both (ltb (u .number) (y .cells)) (reaches l (y .cell .label)) → o ≡ false
+          → Takes storeSort (nearby y) (Write w a) l h rs Blocked
+      unfolding turnOf targetBy sortOf
+      write-shut o e eo f =
+          record {
+            takes = λ b i. one-cell b i (λ k. writing sources (nearby y) l h k (registerIn h rs a)) storeSort Blocked e
+                (write-closed l h y (u .number) o eo (registerIn h rs a) f);
+            only = waits refl;
+          }
+
       pub write-cell : (x : Effect) (v : Stored) → u .kind ≡ 1 → storedOf v ≡ registerIn h rs a
           → Does storeSort (nearby y) (u .number) (writing sources (nearby y) l h (u .number) (storedOf v)) x → Takes storeSort (nearby y) (Write w a) l h rs x
       unfolding turnOf targetBy
@@ -188,6 +199,6 @@ pub ruleset adds = (add-first, add-second, add-both)
 
 pub ruleset reads = (read-no, read-none, read-done)
 
-pub ruleset throughs = (write-no, write-cell, relabel-no, relabel-cell, exec-no, exec-cell)
+pub ruleset throughs = (write-no, write-shut, write-cell, relabel-no, relabel-cell, exec-no, exec-cell)
 
 pub ruleset lowers = (lower-not, lower-done)

@@ -6,22 +6,33 @@ use crate::Stored;
 use crate::registers;
 use labels::Label;
 ghost use mathlib.Core.Path.{_≡_};
+ghost use lib.Dec.{ltb};
+ghost use Rattle.labels.specs.Labels.{reaches};
+ghost use Rattle.book.specs.Control.{both};
 ghost use Rattle.machine.specs.Histories.{sources};
 ghost use Rattle.machine.specs.Acts.{writing, relabelling, making, starting, executing};
 ghost use Rattle.machine.specs.Events.{tableSize};
 ghost use Rattle.acts.specs.Views.{storedOf, nearby, answerOf, Does, Makes, storeSort, launchSort};
 
+// The cell that is reached, number k, exists and can be written at label l.
+pub fn is_open(l: Label, near: Near, k: u32) -> bool
+    ensures { λ r. ⌜ r ≡ both (ltb k (near .cells)) (reaches l (near .cell .label)) ⌝ }
+{
+    let cell = near.cell;
+    if (k as usize) < near.cells {
+        return l.reaches(cell.label);
+    }
+    false
+}
+
 pub fn write_cell(l: Label, h: Label, near: Near, k: u32, v: Stored) -> Effect
     ensures { λ x. ⌜ Does storeSort (nearby near) k (writing sources (nearby near) l h k (storedOf v)) x ⌝ }
 {
-    let cell = near.cell;
-    let label = cell.label;
-    if (k as usize) < near.cells {
-        if l.reaches(label) {
-            let content = registers::acted(h, v);
-            return Effect::Store(registers::hold(content, cell.shape, label));
-        }
-        return Effect::Blocked;
+    if is_open(l, near, k) {
+        let cell = near.cell;
+        let label = cell.label;
+        let content = registers::acted(h, v);
+        return Effect::Store(registers::hold(content, cell.shape, label));
     }
     Effect::Blocked
 }

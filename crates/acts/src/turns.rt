@@ -75,8 +75,12 @@ fn write(l: Label, h: Label, registers: [Stored; 8], near: Near, u: Stored, w: u
     if u.kind != 1 {
         return Effect::Blocked;
     }
-    let v = registers::register_of(h, registers, a);
-    effects::write_cell(l, h, near, u.number, v)
+    // One that is blocked reads no value: that would copy the registers.
+    if effects::is_open(l, near, u.number) {
+        let v = registers::register_of(h, registers, a);
+        return effects::write_cell(l, h, near, u.number, v);
+    }
+    Effect::Blocked
 }
 
 fn relabel(

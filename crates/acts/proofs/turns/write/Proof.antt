@@ -10,5 +10,16 @@ returns c = search (throughs, needs)
 returns-2 : tie.Need-returns-2
 returns-2 c = search (throughs, needs)
 
+returns-3 : tie.Need-returns-3
+returns-3 c = search (throughs, needs)
+
 pub write-spec : {M : Type 1} → statement M
-write-spec = tie.close (tie.spec returns (λ c κs. search needs) (λ c κs. search needs) returns-2)
+write-spec =
+    tie.close
+    (tie.spec
+    returns
+    (λ c κs. search needs)
+    (λ c κs. search needs)
+    (λ c κs. search needs)
+    returns-2
+    returns-3)
