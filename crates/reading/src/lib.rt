@@ -6,7 +6,8 @@ use book::Found;
 use book::Reading;
 use book::Refusal;
 ghost use mathlib.Core.Path.{_≡_};
-ghost use Prim.Native.Nat.{_≤_};
+ghost use Prim.Native.Nat.{_+_, _≤_};
+ghost use denote.Ref.{ptr};
 ghost use lib.ListN.{length};
 ghost use Rattle.book.specs.Asked.{Clear};
 ghost use Rattle.book.specs.Outline.{reading};
@@ -76,9 +77,11 @@ pub fn find_block(book: &[u8], block: usize) -> Found
     }
 }
 
-// A block's stretch of the book, steps only; empty after a refusal, which find_block gives.
+// A block's stretch of the book, steps only; empty after a refusal, which find_block gives. It lies in the lent book, where the block's record says,
+// also where it is empty; after a refusal at the book's first byte. (A pointer is a piece of memory and an offset in it.)
 pub fn block_stretch(book: &[u8], block: usize) -> &[u8]
     ensures { λ r. ⌜ now r ≡ stretch (now (book .entry)) block ⌝ }
+    ensures { λ r. ⌜ ptr r ≡ (ptr (book .entry) .0, foundBlock (now (book .entry)) block .start + ptr (book .entry) .1) ⌝ }
 {
     let f = find_block(book, block);
     let start = f.start;
