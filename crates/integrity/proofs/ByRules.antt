@@ -1,6 +1,7 @@
 -- The rules as data are the rules: what the verdict accepts, they accept.
 --     step-by, walk-by       a step, a block
 --     accepted-by            a book
+--     same-rules             both
 -- Assumes nothing.
 use Prim.Native.Nat.{ℕ, suc}
 use mathlib.Core.Path.{_≡_, refl, ap, _∙_}
@@ -19,7 +20,7 @@ use Rattle.typing.specs.Rules.{Typed, passes, stuck, breaks, fresh, lowStep, hi
 use Rattle.typing.specs.Rules as R
 use Rattle.typing.specs.Verdict.{verdict}
 use Rattle.machine.specs.Events.{noBlock}
-use Rattle.integrity.specs.Weakened.{rulesOf, stepBy, walkBy, every, acceptedBy}
+use Rattle.integrity.specs.Weakened.{rulesOf, stepBy, walkBy, every, acceptedBy, SameRules}
 use Rattle.integrity.proofs.Booleans.{both-true}
 use Rattle.integrity.proofs.Invariant.{passesAll}
 use Rattle.integrity.proofs.Bridge.{accepted}
@@ -71,3 +72,6 @@ accepted-by bytes shapes cells blocks steps e =
     (all-every (declaredOk B) (parse bytes .cells) (a .cells))
     (get-every (λ (b : Block). walkBy B (rulesOf B) (b .steps) (passes (fresh (b .bound)))) (parse bytes .blocks) noBlock
     (λ i. walk-by B _ _ ∙ a .blocks i))
+
+pub same-rules : SameRules
+same-rules = record { step-alike = step-by; book-accepted = accepted-by }

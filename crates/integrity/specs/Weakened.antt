@@ -1,6 +1,7 @@
 -- The rules, each weakened in one place, and what shows that the place is needed: a readable book that the weakened rules accept, and events
 -- after which a sentence is broken. So the theorem would be false of them. Nothing else is built on these definitions.
 --     Rules, rulesOf, acceptedBy      the rules as data; acceptance by them
+--     SameRules                       the rules as data are the rules
 --     execUntrusted, ..               the weakened rules
 --     Needed                          a book and events that break a sentence
 -- Assumes nothing.
@@ -87,6 +88,12 @@ unfoldable pub acceptedBy : (View → Rules) → Book → Bool
 acceptedBy R K =
     let B = viewOf K in
     both (every (R B .cell) (K .cells)) (every (λ (b : Block). walkBy B (R B) (b .steps) (passes (fresh (b .bound)))) (K .blocks))
+
+-- The rules as data are the rules: a step is typed alike, and what the verdict accepts, they accept. proofs/ByRules.antt proves it.
+pub record SameRules : Type 0 where
+  pub step-alike : (B : View) (t : State) (p : Step) → stepBy B (rulesOf B) t p ≡ step B t p
+  pub book-accepted : (bytes : List ℕ) (shapes cells blocks steps : ℕ) → verdict bytes ≡ Accepted shapes cells blocks steps
+      → acceptedBy rulesOf (parse bytes) ≡ true
 
 -- A readable book that rules R accept and the verdict refuses, and events after which a sentence is broken.
 pub record Needed (R : View → Rules) : Type 0 where

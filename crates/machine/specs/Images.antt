@@ -2,6 +2,7 @@
 --     Image                             a map of histories that goes with one label and with joining
 --     tracedImage, .., stateImage       the map on values, cells, jobs, states
 --     outcomeImage                      and on outcomes
+--     ImageLaw                          the law, for any image of histories
 --     SourceLaw                         the machine that keeps sources is the image of the machine that keeps histories
 -- Assumes nothing.
 use Prim.Native.Nat.{ℕ}
@@ -49,6 +50,10 @@ pub record Images (A B : Histories) (f : A .H → B .H) (size : ℕ) (K : Book) 
   pub after-image : (l : Label) (es : List Event)
       → stateImage f (stateAfter A size K (freshState A K l) es) ≡ stateAfter B size K (freshState B K l) es
   pub answers-image : (l : Label) (es : List Event) → answers A size K (freshState A K l) es ≡ answers B size K (freshState B K l) es
+
+-- for any image of histories
+abbrev pub ImageLaw : Type 1
+ImageLaw = (A B : Histories) (i : Image A B) (size : ℕ) (K : Book) → Images A B (i .of) size K
 
 -- the sources
 abbrev pub SourceLaw : Type 0
