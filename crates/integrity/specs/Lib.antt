@@ -1,3 +1,4 @@
 pub mod Integrity
 pub mod Tables
+pub mod Laws
 pub mod Weakened

@@ -1,0 +1,61 @@
+-- The history of a job that exec starts; an outsider above C changes nothing.
+--     exec-history, above-c
+-- Assumes nothing.
+use mathlib.Core.Path.{_≡_, refl}
+use mathlib.Core.Bool.{true, false}
+use mathlib.Core.Option.{Option, some}
+use mathlib.Core.List.{List, [], _∷_, _++_, List·Memᴰ·head, List·Memᴰ·tail}
+use Prim.Native.Nat.{ℕ}
+use native.Mathlib.Omega.{arith}
+use borrow.Author.Tests.{lt-ltb, ltb-true, lt-leb}
+use Rattle.labels.specs.declared.Label.{Label}
+use Rattle.labels.specs.Labels.{lower, reaches, isAbove}
+use Rattle.book.specs.Book.{Book}
+use Rattle.book.specs.Control.{both, onSome}
+use Rattle.machine.specs.Control.{given, onCode}
+use Rattle.machine.specs.declared.Event.{Event}
+use Rattle.machine.specs.declared.Event.the-variants.{StepOf, WriteBy, RelabelBy, NewBy, ExecBy, StartBy}
+use Rattle.machine.specs.Histories.{History, hands, lists, append}
+use Rattle.machine.specs.States.{State}
+use Rattle.machine.specs.Acts.{freshJob, execLabel, executing}
+use Rattle.machine.specs.Events.{noSuch, unchanged, outcomeOf}
+use Rattle.integrity.specs.Integrity.{_isIn_}
+use Rattle.integrity.specs.Laws.{ExecHistory, claimed, AboveC}
+
+-- a member of a part
+in-front : {A : Type 0} (x : A) (xs ys : List A) → x isIn xs → x isIn (xs ++ ys)
+in-front x (y ∷ xs) ys (List·Memᴰ·head e) = List·Memᴰ·head e
+in-front x (y ∷ xs) ys (List·Memᴰ·tail m) = List·Memᴰ·tail (in-front x xs ys m)
+
+behind : {A : Type 0} (x : A) (xs ys : List A) → x isIn ys → x isIn (xs ++ ys)
+behind x [] ys m = m
+behind x (y ∷ xs) ys m = List·Memᴰ·tail (behind x xs ys m)
+
+pub exec-history : ExecHistory
+unfolding executing execLabel onSome onCode given
+exec-history size s l h k b c ec ev free = (
+  freshJob lists b (lower l (c .label)) (append (append h (c .content .history)) (record { first = lower l (c .label); rest = [] })),
+  simp (ec, ev, lt-ltb _ _ free),
+  record {
+    block = refl;
+    label = refl;
+    history = refl;
+    code = λ x m. in-front x (hands h ++ hands (c .content .history)) (lower l (c .label) ∷ []) (behind x (hands h) (hands (c .content .history)) m);
+  },
+)
+
+-- above C is not at or below it
+not-below : (q c : Label) → isAbove q c ≡ true → reaches c q ≡ false
+not-below q c e = lt-leb (q .0) (c .0) (ltb-true (c .0) (q .0) e)
+
+same-label : (p q : Label) → _≡_ {A = Option Label} (some p) (some q) → p ≡ q
+same-label p q e = cc
+
+pub above-c : AboveC
+unfolding outcomeOf given both
+above-c size K s (StepOf i) q e h = let z : _≡_ {A = ℕ} 0 1 = cc in absurd (omega arith)
+above-c size K s (WriteBy p k v n) q e h = simp (not-below p (K .c) (rw (same-label p q e) h))
+above-c size K s (RelabelBy p k o) q e h = simp (not-below p (K .c) (rw (same-label p q e) h))
+above-c size K s (NewBy p i v n) q e h = simp (not-below p (K .c) (rw (same-label p q e) h))
+above-c size K s (ExecBy p k) q e h = simp (not-below p (K .c) (rw (same-label p q e) h))
+above-c size K s (StartBy p b) q e h = simp (not-below p (K .c) (rw (same-label p q e) h))
