@@ -5,10 +5,11 @@
 use mathlib.Core.Path.{_≡_, refl, sym, ap, _∙_}
 use mathlib.Core.Bool.{Bool, true, false}
 use mathlib.Core.List.{List}
-use Prim.Native.Nat.{ℕ, _+_, _-_, _≤_, _<_}
+use Prim.Native.Nat.{ℕ, zero, suc, _+_, _*_, _-_, _≤_, _<_}
 use native.Mathlib.Omega.{arith}
+use lib.Dec.{ltb}
 use lib.ListN.{length, length-map}
-use borrow.Author.Tests.{lt-ltb, le-ltb, ne-eqb}
+use borrow.Author.Tests.{lt-ltb, le-ltb, ltb-true, ltb-false, ne-eqb}
 use Rattle.labels.specs.Labels.{label}
 use Rattle.book.specs.declared.Fault.the-variants.{Nowhere, At}
 use Rattle.book.specs.declared.Refusal.the-variants.{Passed}
@@ -18,6 +19,7 @@ use Rattle.book.specs.Refusals.{orRefuse}
 use Rattle.book.proofs.Spans as by
 use Rattle.machine.specs.declared.Event.the-variants.{StepOf, WriteBy, RelabelBy, NewBy, ExecBy, StartBy}
 use Rattle.events.specs.declared.Scanned.{Scanned}
+use Rattle.events.specs.Asked.{Steps}
 use Rattle.events.specs.Bytes.{span, next, cut, offsetsFrom, eventAt, eventsFrom, eventFault, unplayable, refusedScan, scanOf, scanned}
 
 -- the bytes of each kind
@@ -95,13 +97,10 @@ module _ (l : List ℕ) (o w : ℕ) (q : w ≡ span (byteAt l o)) (h : o < lengt
   pub cut-not : (w ≡ 0 → ⊥) → w ≤ length l - o → false ≡ cut l o
   cut-not e b = sym (by.uncut span l o (λ z. e (q ∙ z)) (omega arith))
 
--- a step and a write, which the code asks for by themselves
+-- a step that is whole; a write, which the code asks for by itself
 module _ (l : List ℕ) (o : ℕ) (h : o < length l) where
   module _ (e : byteAt l o ≡ 80) where
-    pub cut-step : length l - o < 2 → true ≡ cut l o
-    cut-step b = cut-body l o 2 (span-80 _ e) h b
-
-    pub cut-step-not : 2 ≤ length l - o → false ≡ cut l o
+    cut-step-not : 2 ≤ length l - o → false ≡ cut l o
     cut-step-not b = cut-not l o 2 (span-80 _ e) h (λ z. omega (arith, z)) b
 
   module _ (e : byteAt l o ≡ 81) where
@@ -111,7 +110,7 @@ module _ (l : List ℕ) (o : ℕ) (h : o < length l) where
     pub cut-write-not : 8 ≤ length l - o → false ≡ cut l o
     cut-write-not b = cut-not l o 8 (span-81 _ e) h (λ z. omega (arith, z)) b
 
-pub ruleset cuts = (cut-kind, cut-body, cut-not, cut-step, cut-step-not, cut-write, cut-write-not)
+pub ruleset cuts = (cut-kind, cut-body, cut-not, cut-write, cut-write-not)
 
 -- the offset past a step
 pub next-step : (l : List ℕ) (o : ℕ) → byteAt l o ≡ 80 → o + 2 ≡ next l o
@@ -130,7 +129,7 @@ pub scan-long : (l : List ℕ) (r : Scanned) → 65536 < length l → r ≡ refu
 unfolding unplayable scanOf
 scan-long l r h e = e ∙ simp (lt-ltb _ _ h)
 
-pub scan-start : (l : List ℕ) → length l ≤ 65536 → Scanning l 0 0
+scan-start : (l : List ℕ) → length l ≤ 65536 → Scanning l 0 0
 unfolding eventFault eventsFrom
 scan-start l h =
     record { short = h; inside = omega arith; few = omega arith; fault = refl; count = omega (arith, length-map (offsetsFrom l 0) (eventAt l)) }
@@ -143,7 +142,7 @@ module _ (l : List ℕ) (o n : ℕ) (k : Scanning l o n) where
         let f : At o ≡ eventFault l = by.fault-cut span l o (eventFault l) (k .fault) h (sym eb ∙ e) in
         x ∙ simp (le-ltb _ _ (k .short), ← f)
 
-    pub scan-on : (p : ℕ) → b ≡ false → p ≡ next l o → Scanning l p (n + 1)
+    scan-on : (p : ℕ) → b ≡ false → p ≡ next l o → Scanning l p (n + 1)
     scan-on p e q =
         let c : cut l o ≡ false = sym eb ∙ e in
         let m : length (offsetsFrom l o) ≡ length (offsetsFrom l (next l o)) + 1 = ap length (by.offsets-more span l o h c) ∙ omega arith in
@@ -156,7 +155,7 @@ module _ (l : List ℕ) (o n : ℕ) (k : Scanning l o n) where
           count = omega (arith, k .count);
         })
 
-    pub scan-falls : (p : ℕ) → b ≡ false → p ≡ next l o → length l - p < length l - o
+    scan-falls : (p : ℕ) → b ≡ false → p ≡ next l o → length l - p < length l - o
     scan-falls p e q = let c : cut l o ≡ false = sym eb ∙ e in omega (arith, by.uncut-span span l o c, by.uncut-inside span l o c)
 
   pub scan-end : length l ≤ o → _≡_ {A = Scanned} (record { refusal = Passed; count = n }) (scanned l)
@@ -167,4 +166,59 @@ module _ (l : List ℕ) (o n : ℕ) (k : Scanning l o n) where
       let m : n ≡ length (eventsFrom l 0) = omega (arith, k .count) in
       simp (le-ltb _ _ (k .short), ← f, m)
 
-pub ruleset scans = (scan-long, scan-start, scan-bad, scan-on, scan-falls, scan-end)
+-- the steps that stand one after the other are passed over
+module _ (l : List ℕ) where
+  pub steps-start : (o : ℕ) → o ≤ length l → Steps l o o 0
+  steps-start o h = record { past = omega arith; inside = h; step = λ i r. absurd (omega arith) }
+
+  module _ (from o n : ℕ) (k : Steps l from o n) where
+    pub steps-on : (e : byteAt l o ≡ 80) → o + 1 < length l → Steps l from (o + 2) (n + 1)
+    steps-on e h = record { past = omega (arith, k .past); inside = omega arith; step = λ i r. go i (ltb i n) refl r }
+      where
+        go : (i : ℕ) (t : Bool) → ltb i n ≡ t → i < n + 1 → byteAt l (from + 2 * i) ≡ 80
+        go i true q r = k .step i (ltb-true i n q)
+        go i false q r = let j : from + 2 * i ≡ o = omega (arith, k .past, ltb-false i n q) in rw j e
+
+    pub steps-few : length l ≤ 65536 → (o ≤ 65536) × (n ≤ 65536)
+    steps-few h = (omega (arith, k .inside), omega (arith, k .inside, k .past))
+
+  -- all but the first
+  later : (from o n : ℕ) → Steps l from o (suc n) → Steps l (from + 2) o n
+  later from o n k =
+      record {
+        past = omega (arith, k .past);
+        inside = k .inside;
+        step = λ i r. let j : from + 2 + 2 * i ≡ from + 2 * (suc i) = omega arith in rw j (k .step (suc i) (omega arith));
+      }
+
+  scan-past : (m o n : ℕ) (from : ℕ) → Steps l from o m → Scanning l from n → Scanning l o (n + m)
+  scan-past zero o n from k s = let e : o ≡ from = omega (arith, k .past) in let z : n + 0 ≡ n = omega arith in rw (e, z) s
+  scan-past (suc m) o n from k s =
+      let h : from + 2 ≤ length l = omega (arith, k .past, k .inside) in
+      let e : byteAt l from ≡ 80 = let z : from + 2 * 0 ≡ from = omega arith in rw z at (k .step 0 (omega arith)) in
+      let f : Scanning l (from + 2) (n + 1)
+      = scan-on l from n s false (cut-step-not l from (omega arith) e (omega arith)) (omega arith) (from + 2) refl (next-step l from e) in
+      let j : n + 1 + m ≡ n + suc m = omega arith in
+      rw j at (scan-past m o (n + 1) (from + 2) (later from o m k) f)
+
+pub scan-begin : (l : List ℕ) (o m : ℕ) → length l ≤ 65536 → Steps l 0 o m → Scanning l o m
+scan-begin l o m h k = let z : 0 + m ≡ m = omega arith in rw z at (scan-past l m o 0 0 k (scan-start l h))
+
+-- a turn: an event, and the steps behind it, up to the offset at
+module _ (l : List ℕ) (o n : ℕ) (k : Scanning l o n) (b : Bool) (eb : b ≡ cut l o) (h : o < length l) (e : b ≡ false) (p : ℕ) (q : p ≡ next l o) where
+  pub turn-room : (p ≤ length l) × (length l ≤ 65536)
+  turn-room = (scan-on l o n k b eb h p e q .inside, k .short)
+
+  module _ (at m : ℕ) (w : Steps l p at m) where
+    pub turn-on : Scanning l at (n + 1 + m)
+    turn-on = scan-past l m at (n + 1) p w (scan-on l o n k b eb h p e q)
+
+    pub turn-falls : length l - at < length l - o
+    turn-falls = let f = scan-falls l o n k b eb h p e q in omega (arith, w .past, w .inside)
+
+    pub turn-few : (n + 1 ≤ 65537) × (n + 1 + m ≤ 65536)
+    turn-few = (omega (arith, k .few, k .inside, k .short), omega (arith, turn-on .few, turn-on .inside, k .short))
+
+pub ruleset passes = (steps-start, steps-on, steps-few)
+
+pub ruleset scans = (scan-long, scan-begin, scan-bad, turn-room, turn-on, turn-falls, scan-end)

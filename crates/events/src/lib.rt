@@ -3,8 +3,9 @@ use book::Refusal;
 use labels::Label;
 use machine::Event;
 ghost use mathlib.Core.Path.{_≡_};
-ghost use Prim.Native.Nat.{_<_};
+ghost use Prim.Native.Nat.{_<_, _≤_};
 ghost use lib.ListN.{length};
+ghost use Rattle.events.specs.Asked.{Steps};
 ghost use Rattle.events.specs.Bytes.{span, next, cut, eventAt, refusedScan, scanned};
 
 // What the scan of an event list gives: its refusal by 9, or how many events it has. After a refusal the count is 0.
@@ -38,19 +39,13 @@ fn span_of(kind: u8) -> u8
     0
 }
 
-// The event at an offset has an unknown kind or a cut body. A step and a write are asked for by themselves, so that the processor need not
-// wait for a look-up before it goes on to the next event.
+// The event at an offset has an unknown kind or a cut body. A write is asked for by itself, so that the processor need not wait for
+// a look-up before it goes on to the next event.
 fn is_cut(list: &[u8], o: usize) -> bool
     requires { ⌜ o < length (now list) ⌝ }
     ensures { λ r. ⌜ r ≡ cut (now (list .entry)) o ⌝ }
 {
     let k = list[o];
-    if k == 80 {
-        if list.len() - o < 2 {
-            return true;
-        }
-        return false;
-    }
     if k == 81 {
         if list.len() - o < 8 {
             return true;
@@ -73,9 +68,6 @@ pub fn next_event(list: &[u8], o: usize) -> usize
     ensures { λ r. ⌜ r ≡ next (now (list .entry)) o ⌝ }
 {
     let k = list[o];
-    if k == 80 {
-        return o + 2;
-    }
     let w = span_of(k);
     o + w as usize
 }
@@ -115,6 +107,30 @@ impl Scanned {
     }
 }
 
+// Steps that were passed over: the offset behind them, and how many they are.
+struct StepsPassed {
+    at: usize,
+    count: usize,
+}
+
+// Past the steps that stand from an offset on. Most events are steps, and in a loop of their own they are told by one test each.
+fn pass_steps(list: &[u8], from: usize) -> StepsPassed
+    requires { ⌜ (from ≤ length (now list)) × (length (now list) ≤ 65536) ⌝ }
+    ensures { λ r. ⌜ Steps (now (list .entry)) from (r .at) (r .count) ⌝ }
+{
+    let mut o = from;
+    let mut n: usize = 0;
+    while o + 1 < list.len() {
+        let k = list[o];
+        if k != 80 {
+            return StepsPassed { at: o, count: n };
+        }
+        o = o + 2;
+        n = n + 1;
+    }
+    StepsPassed { at: o, count: n }
+}
+
 // Scans an event list: its refusal by 9, or its count of events.
 pub fn scan(list: &[u8]) -> Scanned
     ensures { λ r. ⌜ r ≡ scanned (now (list .entry)) ⌝ }
@@ -122,14 +138,16 @@ pub fn scan(list: &[u8]) -> Scanned
     if 65536 < list.len() {
         return Scanned::refused(0);
     }
-    let mut o: usize = 0;
-    let mut n: usize = 0;
+    let first = pass_steps(list, 0);
+    let mut o = first.at;
+    let mut n = first.count;
     while o < list.len() {
         if is_cut(list, o) {
             return Scanned::refused(o);
         }
-        o = next_event(list, o);
-        n = n + 1;
+        let r = pass_steps(list, next_event(list, o));
+        o = r.at;
+        n = n + 1 + r.count;
     }
     Scanned {
         refusal: Refusal::Passed,

@@ -16,32 +16,23 @@ returns c = search cuts
 returns-2 : tie.Need-returns-2
 returns-2 c = search cuts
 
-sub-if4 : tie.Need-sub-if4
-sub-if4 c = search needs
-
-returns-3 : tie.Need-returns-3
-returns-3 c = search cuts
-
-returns-4 : tie.Need-returns-4
-returns-4 c = search cuts
-
 span-of-requires : tie.Need-span-of-requires
 span-of-requires c κs = search needs
 
 cast-w : tie.Need-cast-w
 cast-w c = search needs
 
+returns-3 : tie.Need-returns-3
+returns-3 c = search cuts
+
+sub-if4 : tie.Need-sub-if4
+sub-if4 c = search needs
+
+returns-4 : tie.Need-returns-4
+returns-4 c = search cuts
+
 returns-5 : tie.Need-returns-5
 returns-5 c = search cuts
-
-sub-if6 : tie.Need-sub-if6
-sub-if6 c = search needs
-
-returns-6 : tie.Need-returns-6
-returns-6 c = search cuts
-
-returns-7 : tie.Need-returns-7
-returns-7 c = search cuts
 
 pub is-cut-spec : {M : Type 1} → statement M
 is-cut-spec =
@@ -51,12 +42,9 @@ is-cut-spec =
     sub-if2
     returns
     returns-2
-    sub-if4
-    returns-3
-    returns-4
     span-of-requires
     cast-w
-    returns-5
-    sub-if6
-    returns-6
-    returns-7)
+    returns-3
+    sub-if4
+    returns-4
+    returns-5)

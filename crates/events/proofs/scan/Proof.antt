@@ -2,7 +2,7 @@
 use Prim.Native.Nat.{_-_}
 use lib.ListN.{length}
 use borrow.Author.Needs.{needs}
-use Rattle.events.proofs.Scans.{Scanning, scans}
+use Rattle.events.proofs.Scans.{Scanning, scans, turn-room, turn-few}
 use Rattle.events.proofs.scan.Tie as tie
 use Rattle.events.proofs.scan.Statement.{statement}
 
@@ -12,29 +12,31 @@ Inv-loop list o₀ n₀ o n = Scanning list o n
 abbrev μ-loop : tie.MeasureT-loop
 μ-loop list o₀ n₀ o n = length list - o
 
-refused-requires : tie.Need-refused-requires Inv-loop μ-loop
-refused-requires c κs = search needs
-
 returns : tie.Need-returns Inv-loop μ-loop
 returns c = search scans
 
 loop-holds : tie.Need-loop-holds Inv-loop μ-loop
-loop-holds c = search scans
-
-is-cut-requires : tie.Need-is-cut-requires Inv-loop μ-loop
-is-cut-requires c κs = search needs
-
-refused-requires-2 : tie.Need-refused-requires-2 Inv-loop μ-loop
-refused-requires-2 c κs = search needs
+loop-holds c = search (scans, needs)
 
 returns-2 : tie.Need-returns-2 Inv-loop μ-loop
 returns-2 c = search scans
 
-next-event-requires : tie.Need-next-event-requires Inv-loop μ-loop
-next-event-requires c κs = search needs
+pass-steps-requires-2 : tie.Need-pass-steps-requires-2 Inv-loop μ-loop
+pass-steps-requires-2 c κs =
+    let l = c .before .before .before in
+    turn-room _ _ _ (l .before .loop .inv) _ (c .before .before .is-cut .ensures) (l .loop-test .taken) (c .before .if2 .left) _ (c .next-event .ensures)
 
 add-n : tie.Need-add-n Inv-loop μ-loop
-add-n c = search needs
+add-n c =
+    let l = c .before .before .before .before in
+    let f = turn-few _ _ _ (l .before .loop .inv) _ (c .before .before .before .is-cut .ensures) (l .loop-test .taken) (c .before .before .if2 .left) _ (c .before .next-event .ensures) _ _ (c .pass-steps2 .ensures) in
+    search needs
+
+add-n-2 : tie.Need-add-n-2 Inv-loop μ-loop
+add-n-2 c =
+    let l = c .before .before .before .before .before in
+    let f = turn-few _ _ _ (l .before .loop .inv) _ (c .before .before .before .before .is-cut .ensures) (l .loop-test .taken) (c .before .before .before .if2 .left) _ (c .before .before .next-event .ensures) _ _ (c .before .pass-steps2 .ensures) in
+    search needs
 
 loop-less : tie.Need-loop-less Inv-loop μ-loop
 loop-less c = search scans
@@ -51,14 +53,17 @@ scan-spec =
     (tie.spec
     Inv-loop
     μ-loop
-    refused-requires
+    (λ c κs. search needs)
     returns
+    (λ c κs. search needs)
     loop-holds
-    is-cut-requires
-    refused-requires-2
+    (λ c κs. search needs)
+    (λ c κs. search needs)
     returns-2
-    next-event-requires
+    (λ c κs. search needs)
+    pass-steps-requires-2
     add-n
+    add-n-2
     loop-less
     loop-again
     returns-3)
