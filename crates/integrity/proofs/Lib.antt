@@ -20,5 +20,6 @@ pub mod Tables
 pub mod JobsFit
 pub mod Laws
 pub mod ByRules
+pub mod ByMachine
 pub mod Tested
-pub mod Weakened
+pub mod EachNeeded

@@ -1,259 +1,222 @@
--- The rules, each weakened in one place, and what shows that the place is needed: a readable book that the weakened rules accept, and events
--- after which a sentence is broken. So the theorem would be false of them. Nothing else is built on these definitions.
---     Rules, rulesOf, acceptedBy      the rules as data; acceptance by them
---     SameRules                       the rules as data are the rules
---     execUntrusted, ..               the weakened rules
---     Needed                          a book and events that break a sentence
--- Assumes nothing.
-use Prim.Native.Nat.{ℕ, zero, suc}
+-- The typing rules once more, with a mark at each place that the theorem needs. A mark has the place's name, from the words of 01, and what
+-- stands there where this one place is weakened. Where none is, these are the rules: proofs/ByRules.antt.
+--     instead, asked, raised     the marks
+--     acceptedBy                 acceptance by the rules, weakened at a place
+--     Needed                     a book and events that break a sentence: the theorem would be false of the weakened rules
+-- Nothing else is built on these definitions. Assumes nothing.
+use Prim.Native.Nat.{ℕ, zero, suc, _-_}
+use Prim.Native.String.{String}
 use mathlib.Core.Path.{_≡_}
 use mathlib.Core.Bool.{Bool, true, false, not}
 use mathlib.Core.List.{List, [], _∷_}
-use lib.Dec.{eqb}
+use mathlib.Core.Option.{Option}
+use lib.Dec.{leb, eqb}
+use lib.Text.{eqt}
 use Rattle.labels.specs.declared.Label.{Label}
-use Rattle.labels.specs.Labels.{label, reaches, isMet}
+use Rattle.labels.specs.Labels.{label, lower, reaches, isAbove, isMet, covers, capped}
+use Rattle.book.specs.declared.Shape.{Shape}
 use Rattle.book.specs.declared.Declared.{Declared}
 use Rattle.book.specs.declared.Step.{Step}
 use Rattle.book.specs.declared.Step.the-variants.{Put, Name, Code, Add, New, Read, Write, Relabel, Lower, Start, Exec}
-use Rattle.book.specs.Control.{if_then_else_, both, either}
 use Rattle.book.specs.declared.Refusal.the-variants.{Passed}
+use Rattle.book.specs.Control.{if_then_else_, both, either, onSome}
 use Rattle.book.specs.Book.{Book, Block, parse}
 use Rattle.book.specs.Refusals.{unreadable}
 use Rattle.typing.specs.declared.Known.{Known}
 use Rattle.typing.specs.declared.Known.the-variants as N
 use Rattle.typing.specs.declared.State.{State}
-use Rattle.typing.specs.declared.Verdict.the-variants.{Accepted, Refused}
-use Rattle.typing.specs.Shapes.{View, viewOf, isCode, isCell, isPlain, boundOf, contentOf, trustOf, highTrust, alike, fits, knownOf, knownValue, declaredOk}
-use Rattle.typing.specs.Rules.{Typed, passes, stuck, breaks, need, free, onCell, onCode, register, gives, givesLow, fresh, isLow, known, lowered, lowering, holds, lowStep, making, reading, writing, relabelling, executing, step}
+use Rattle.typing.specs.declared.Verdict.the-variants.{Refused}
+use Rattle.typing.specs.Shapes.{View, viewOf, isPlain, isCode, isCell, boundOf, contentOf, trustOf, highTrust, knownOf, knownValue}
+use Rattle.typing.specs.Rules.{Typed, passes, stuck, breaks, need, free, onCell, onCode, register, gives, givesLow, fresh, used, isLow, known, lowered, addable, lowStep, highStep}
 use Rattle.typing.specs.Verdict.{verdict}
 use Rattle.machine.specs.declared.Event.{Event}
 use Rattle.machine.specs.Histories.{lists}
 use Rattle.machine.specs.Events.{tableSize, launchLabel, freshState, stateAfter}
 use Rattle.integrity.specs.Integrity.{Sentences}
 
--- the rules that are weakened below: a declared cell, and six kinds of step at P above C; lower is so at every P
-pub record Rules : Type 0 where
-  pub cell : Declared → Bool
-  pub new : State → ℕ → ℕ → ℕ → Typed
-  pub read : State → ℕ → ℕ → Typed
-  pub write : State → ℕ → ℕ → Typed
-  pub relabel : State → ℕ → Label → Typed
-  pub lower : State → Label → Typed
-  pub exec : State → ℕ → Typed
+-- the place that is weakened, by its name; "" weakens none
+module _ (weakened : String) where
+  -- y; where this place is weakened, x
+  abbrev pub instead : {A : Type 0} → String → A → A → A
+  instead place x y = if eqt weakened place then x else y
 
-abbrev pub rulesOf : View → Rules
-rulesOf B =
-    record {
-      cell = declaredOk B;
-      new = making (B .c) (B .shape);
-      read = reading (B .c) (B .shape);
-      write = writing (B .c) (B .shape);
-      relabel = relabelling (B .c) (B .shape);
-      lower = lowering (B .c);
-      exec = executing (B .c) (B .shape);
-    }
+  -- the test; where this place is weakened, nothing is asked
+  abbrev pub asked : String → Bool → Bool
+  asked place test = instead place true test
 
-module _ (B : View) (R : Rules) where
-  -- at P above C by this rule
-  abbrev pub atHigh : State → Step → Typed → Typed
-  atHigh t p x = if isLow (B .c) (t .p) then lowStep (B .c) (B .shape) t p else x
+  -- C; where this place is weakened, C + 1
+  abbrev pub raised : String → Label → Label
+  raised place c = instead place (label (suc (c .0))) c
 
-  unfoldable pub stepBy : State → Step → Typed
-  stepBy t (Put r n) = step B t (Put r n)
-  stepBy t (Name r k) = step B t (Name r k)
-  stepBy t (Code r b) = step B t (Code r b)
-  stepBy t (Add r a b) = step B t (Add r a b)
-  stepBy t (New r i a) = atHigh t (New r i a) (R .new t r i a)
-  stepBy t (Read r w) = atHigh t (Read r w) (R .read t r w)
-  stepBy t (Write w a) = atHigh t (Write w a) (R .write t w a)
-  stepBy t (Relabel w o) = atHigh t (Relabel w o) (R .relabel t w o)
-  stepBy t (Lower q) = R .lower t q
-  stepBy t (Start b) = step B t (Start b)
-  stepBy t (Exec w) = atHigh t (Exec w) (R .exec t w)
+  module _ (c : Label) (shape : ℕ → Shape) where
+    -- "trust above C"
+    abbrev pub high : String → ℕ → Bool
+    high place i = highTrust (raised place c) shape i
 
-  unfoldable pub walkBy : List Step → Typed → Bool
-  walkBy [] breaks = false
-  walkBy [] stuck = true
-  walkBy [] (passes t) = true
-  walkBy (p ∷ ps) breaks = false
-  walkBy (p ∷ ps) stuck = true
-  walkBy (p ∷ ps) (passes t) = walkBy ps (stepBy t p)
+    -- a trust, "at or below C .. 0"
+    abbrev pub trustBy : String → ℕ → ℕ
+    trustBy place i = trustOf (raised place c) shape i .0
+
+    -- "Two shapes are alike when both are plain, both code with one bound, or both cells with equal trust and alike contents."
+    unfoldable pub alikeBy : ℕ → ℕ → ℕ → Bool
+    alikeBy zero i j = true
+    alikeBy (suc n) i j =
+        let b = boundOf c shape i .0 in
+        let d = boundOf c shape j .0 in
+        let s = trustBy "alike: low trust" i in
+        let u = trustBy "alike: low trust" j in
+        either (both (asked "alike: the first is plain" (isPlain c shape i)) (asked "alike: the second is plain" (isPlain c shape j)))
+        (either
+        (both (asked "alike: the first is code" (isCode c shape i))
+        (both (asked "alike: the second is code" (isCode c shape j))
+        (instead "alike: the first bound is no larger" (leb d b) (instead "alike: the first bound is no smaller" (leb b d) (eqb b d)))))
+        (both (asked "alike: the first is a cell" (isCell c shape i))
+        (both (asked "alike: the second is a cell" (isCell c shape j))
+        (both (instead "alike: the first trust is no higher" (leb u s) (instead "alike: the first trust is no lower" (leb s u) (eqb s u)))
+        (asked "alike: alike contents" (alikeBy n (contentOf c shape i) (contentOf c shape j)))))))
+
+    -- "A code register of bound B fits a code content of bound at most B; others fit when alike."
+    unfoldable pub fitsBy : Known → ℕ → Bool
+    fitsBy N.Unknown i = false
+    fitsBy N.Plain i = isPlain c shape i
+    fitsBy (N.Code b) i = both (isCode c shape i) (asked "fits: bound at most B" (reaches b (boundOf c shape i)))
+    fitsBy (N.CellOf j) i = asked "fits: others when alike" (alikeBy (suc j) j i)
+
+    -- w's shape, "a cell with used effect above C"; where this place is weakened, whatever its effect is
+    abbrev pub cellBy : String → State → ℕ → Known
+    cellBy place t w = instead place (register t w .known) (known c t w)
+
+    -- "With P at or below C every step passes, except new with trust above C"
+    abbrev pub lowNewBy : State → ℕ → ℕ → Typed
+    lowNewBy t r i = need (asked "low P: except new" (not (high "low P: new with trust above C" i))) (givesLow t r)
+
+    -- "new: low trust passes; otherwise an earlier lower must stand in the block, the content fits, and trust is at most its used effect"
+    abbrev pub makingBy : State → ℕ → ℕ → ℕ → Typed
+    makingBy t r i a =
+        need
+        (both (isCell c shape i)
+        (either (not (high "new: low trust" i))
+        (both (asked "new: an earlier lower" (t .lowered))
+        (both (asked "new: the content fits" (fitsBy (known c t a) (contentOf c shape i)))
+        (isMet (trustOf c shape i)
+        (instead "new: trust is at most P" (register t a .effect) (instead "new: trust is at most its effect" (t .p) (used t a))))))))
+        (gives t r (N.CellOf i) (t .p))
+
+    -- "read: w of low effect gives low; else w is a cell, and the result has its content shape and the smaller of S and P."
+    abbrev pub readingBy : State → ℕ → ℕ → Typed
+    readingBy t r w =
+        if instead "read: w of low effect" false (isLow c (register t w .effect)) then givesLow t r
+        else onCell (cellBy "read: w of low effect" t w)
+        (λ i. gives t r (knownOf c shape (contentOf c shape i)) (instead "read: the smaller of S and P" (t .p) (capped (trustOf c shape i) (t .p))))
+
+    -- "write: stuck if P is below S; low S passes; else a fits and S is at most its used effect."
+    abbrev pub writingBy : State → ℕ → ℕ → Typed
+    writingBy t w a =
+        onCell (cellBy "write: w of used effect above C" t w)
+        (λ i. free (instead "write: P is below S" (not (covers (trustOf c shape i) (t .p))) (isMet (trustOf c shape i) (t .p)))
+        (need
+        (either (not (high "write: low S" i))
+        (both (asked "write: a fits" (fitsBy (known c t a) (contentOf c shape i)))
+        (asked "write: S is at most its used effect" (isMet (trustOf c shape i) (used t a)))))
+        (passes t)))
+
+    -- "relabel to O: stuck if P is below S or O; else S is at most O."
+    abbrev pub relabellingBy : State → ℕ → Label → Typed
+    relabellingBy t w o =
+        onCell (cellBy "relabel: w of used effect above C" t w)
+        (λ i. free
+        (both (instead "relabel: P is below S" (not (covers (trustOf c shape i) (t .p))) (isMet (trustOf c shape i) (t .p)))
+        (instead "relabel: P is below O" (isAbove (t .p) o) (reaches (t .p) o)))
+        (need (asked "relabel: S is at most O" (isMet (trustOf (raised "relabel: low S" c) shape i) o)) (passes t)))
+
+    -- "exec: the content is code with bound at least P, and S at least P."
+    abbrev pub executingBy : State → ℕ → Typed
+    executingBy t w =
+        onCell (cellBy "exec: w of used effect above C" t w)
+        (λ i. onCode (knownOf c shape (contentOf c shape i))
+        (λ k. need (both (asked "exec: bound at least P" (reaches k (t .p))) (asked "exec: S at least P" (covers (trustOf c shape i) (t .p)))) (passes t)))
+
+    -- "add: operands of effect above C must be plain; least effect."
+    abbrev pub addingBy : State → ℕ → ℕ → ℕ → Typed
+    addingBy t r a b =
+        need (both (addable c t a) (addable c t b))
+        (gives t r N.Plain
+        (instead "add: the first's effect" (used t b) (instead "add: the second's effect" (used t a) (lower (used t a) (used t b)))))
+
+    -- "lower Q, at every P: stuck if Q is above both P and C; else P is Q."
+    abbrev pub loweringBy : State → Label → Typed
+    loweringBy t q =
+        free (either (instead "lower: Q is above P" (isAbove (t .p) q) (reaches (t .p) q)) (instead "lower: Q is above C" false (isLow c q)))
+        (lowered t (instead "lower: P is Q" (t .p) q))
+
+  -- "start: the block's bound is at least P."
+  abbrev pub startingBy : State → Option Label → Typed
+  startingBy t bound = onSome bound breaks (λ k. need (asked "start: bound at least P" (reaches k (t .p))) (passes t))
+
+  module _ (B : View) where
+    -- "A declared cell of trust above C needs label at least trust and a fitting value. Others need nothing."
+    unfoldable pub declaredBy : Declared → Bool
+    declaredBy d =
+        if high (B .c) (B .shape) "declared: trust above C" (d .shape)
+        then both (asked "declared: label at least trust" (isMet (trustOf (B .c) (B .shape) (d .shape)) (d .label)))
+        (asked "declared: a fitting value"
+        (fitsBy (B .c) (B .shape) (knownValue (B .cell) (B .bound) (d .value)) (contentOf (B .c) (B .shape) (d .shape))))
+        else true
+
+    -- x at "P at or below C", else y
+    abbrev pub atLow : State → Typed → Typed → Typed
+    atLow t x y = if isLow (raised "P at or below C" (B .c)) (t .p) then x else y
+
+    -- a step: at low P as it is, else by x
+    abbrev pub marked : State → Step → Typed → Typed
+    marked t p x = atLow t (lowStep (B .c) (B .shape) t p) x
+
+    unfoldable pub stepBy : State → Step → Typed
+    stepBy t (Put r n) = marked t (Put r n) (highStep B t (Put r n))
+    stepBy t (Name r k) = marked t (Name r k) (highStep B t (Name r k))
+    stepBy t (Code r b) = marked t (Code r b) (highStep B t (Code r b))
+    stepBy t (Add r a b) = marked t (Add r a b) (addingBy (B .c) (B .shape) t r a b)
+    stepBy t (New r i a) = atLow t (lowNewBy (B .c) (B .shape) t r i) (makingBy (B .c) (B .shape) t r i a)
+    stepBy t (Read r w) = marked t (Read r w) (readingBy (B .c) (B .shape) t r w)
+    stepBy t (Write w a) = marked t (Write w a) (writingBy (B .c) (B .shape) t w a)
+    stepBy t (Relabel w o) = marked t (Relabel w o) (relabellingBy (B .c) (B .shape) t w o)
+    stepBy t (Lower q) = loweringBy (B .c) (B .shape) t q
+    stepBy t (Start b) = marked t (Start b) (startingBy t (B .bound b))
+    stepBy t (Exec w) = marked t (Exec w) (executingBy (B .c) (B .shape) t w)
+
+    -- "P begins as the bound."
+    abbrev pub freshBy : Label → State
+    freshBy b = fresh (instead "P begins as the bound" (label (b .0 - 1)) b)
+
+    -- "After a stuck step the rest of the block passes."
+    unfoldable pub walkBy : List Step → Typed → Bool
+    walkBy [] breaks = false
+    walkBy [] stuck = true
+    walkBy [] (passes t) = true
+    walkBy (p ∷ ps) breaks = false
+    walkBy (p ∷ ps) stuck = true
+    walkBy (p ∷ ps) (passes t) = walkBy ps (stepBy t p)
 
 unfoldable pub every : {A : Type 0} → (A → Bool) → List A → Bool
 every f [] = true
 every f (x ∷ xs) = both (f x) (every f xs)
 
--- every declared cell and every block passes
-unfoldable pub acceptedBy : (View → Rules) → Book → Bool
-acceptedBy R K =
+-- every declared cell and every block passes, by the rules weakened at this place
+unfoldable pub acceptedBy : String → Book → Bool
+acceptedBy weakened K =
     let B = viewOf K in
-    both (every (R B .cell) (K .cells)) (every (λ (b : Block). walkBy B (R B) (b .steps) (passes (fresh (b .bound)))) (K .blocks))
+    both (every (declaredBy weakened B) (K .cells))
+    (every (λ (b : Block). walkBy weakened B (b .steps) (passes (freshBy weakened B (b .bound)))) (K .blocks))
 
--- The rules as data are the rules: a step is typed alike, and what the verdict accepts, they accept. proofs/ByRules.antt proves it.
-pub record SameRules : Type 0 where
-  pub step-alike : (B : View) (t : State) (p : Step) → stepBy B (rulesOf B) t p ≡ step B t p
-  pub book-accepted : (bytes : List ℕ) (shapes cells blocks steps : ℕ) → verdict bytes ≡ Accepted shapes cells blocks steps
-      → acceptedBy rulesOf (parse bytes) ≡ true
-
--- A readable book that rules R accept and the verdict refuses, and events after which a sentence is broken.
-pub record Needed (R : View → Rules) : Type 0 where
+-- A readable book that the rules weakened at this place accept and the rules refuse, and the verdict too, and events after which a sentence is
+-- broken.
+pub record Needed (place : String) : Type 0 where
   pub bytes : List ℕ
   pub events : List Event
   pub number : ℕ
-  pub place : ℕ
+  pub offset : ℕ
   pub readable : unreadable bytes ≡ Passed
-  pub accepted : acceptedBy R (parse bytes) ≡ true
-  pub refused : verdict bytes ≡ Refused number place
+  pub accepted : acceptedBy place (parse bytes) ≡ true
+  pub strict : acceptedBy "" (parse bytes) ≡ false
+  pub refused : verdict bytes ≡ Refused number offset
   pub broken : Sentences (parse bytes) (stateAfter lists tableSize (parse bytes) (freshState lists (parse bytes) (launchLabel (parse bytes))) events) → ⊥
-
--- exec typed without trust at least P: no "and S at least P"
-abbrev pub execUntrusted : View → Rules
-execUntrusted B =
-    let R = rulesOf B in
-    record {
-      cell = R .cell;
-      new = R .new;
-      read = R .read;
-      write = R .write;
-      relabel = R .relabel;
-      lower = R .lower;
-      exec = λ t w. onCell (known (B .c) t w)
-          (λ i. onCode (knownOf (B .c) (B .shape) (contentOf (B .c) (B .shape) i)) (λ k. need (reaches k (t .p)) (passes t)));
-    }
-
--- a write through a low register: no "with used effect above C"
-abbrev pub writeThroughLow : View → Rules
-writeThroughLow B =
-    let R = rulesOf B in
-    record {
-      cell = R .cell;
-      new = R .new;
-      read = R .read;
-      write = λ t w a. onCell (register t w .known)
-          (λ i. free (isMet (trustOf (B .c) (B .shape) i) (t .p))
-          (need (either (not (highTrust (B .c) (B .shape) i)) (holds (B .c) (B .shape) t a i)) (passes t)));
-      relabel = R .relabel;
-      lower = R .lower;
-      exec = R .exec;
-    }
-
--- relabel without trust at most the new label: S is at most P, not "S is at most O"
-abbrev pub relabelBelow : View → Rules
-relabelBelow B =
-    let R = rulesOf B in
-    record {
-      cell = R .cell;
-      new = R .new;
-      read = R .read;
-      write = R .write;
-      relabel = λ t w o. onCell (known (B .c) t w)
-          (λ i. free (both (isMet (trustOf (B .c) (B .shape) i) (t .p)) (reaches (t .p) o)) (need (isMet (trustOf (B .c) (B .shape) i) (t .p)) (passes t)));
-      lower = R .lower;
-      exec = R .exec;
-    }
-
--- new at the bound: no "an earlier lower must stand in the block"
-abbrev pub newAtBound : View → Rules
-newAtBound B =
-    let R = rulesOf B in
-    record {
-      cell = R .cell;
-      new = λ t r i a. need (both (isCell (B .c) (B .shape) i) (either (not (highTrust (B .c) (B .shape) i)) (holds (B .c) (B .shape) t a i)))
-          (gives t r (N.CellOf i) (t .p));
-      read = R .read;
-      write = R .write;
-      relabel = R .relabel;
-      lower = R .lower;
-      exec = R .exec;
-    }
-
--- a lower held stuck in a low block: stuck if Q is above P, not "if Q is above both P and C"
-abbrev pub lowerStuckLow : View → Rules
-lowerStuckLow B =
-    let R = rulesOf B in
-    record {
-      cell = R .cell;
-      new = R .new;
-      read = R .read;
-      write = R .write;
-      relabel = R .relabel;
-      lower = λ t q. free (reaches (t .p) q) (lowered t q);
-      exec = R .exec;
-    }
-
--- read typed with P alone, not "the smaller of S and P"
-abbrev pub readAtP : View → Rules
-readAtP B =
-    let R = rulesOf B in
-    record {
-      cell = R .cell;
-      new = R .new;
-      read = λ t r w. if isLow (B .c) (register t w .effect) then givesLow t r
-          else onCell (known (B .c) t w) (λ i. gives t r (knownOf (B .c) (B .shape) (contentOf (B .c) (B .shape) i)) (t .p));
-      write = R .write;
-      relabel = R .relabel;
-      lower = R .lower;
-      exec = R .exec;
-    }
-
--- a declared cell's rule, by another fitting
-abbrev pub fittedBy : (View → Known → ℕ → Bool) → View → Rules
-fittedBy fit B =
-    let R = rulesOf B in
-    record {
-      cell = λ d. if highTrust (B .c) (B .shape) (d .shape)
-          then both (isMet (trustOf (B .c) (B .shape) (d .shape)) (d .label)) (fit B (knownValue (B .cell) (B .bound) (d .value)) (contentOf (B .c) (B .shape) (d .shape)))
-          else true;
-      new = R .new;
-      read = R .read;
-      write = R .write;
-      relabel = R .relabel;
-      lower = R .lower;
-      exec = R .exec;
-    }
-
--- code that fits any bound: no "of bound at most B"
-unfoldable pub anyBound : View → Known → ℕ → Bool
-anyBound B N.Unknown i = false
-anyBound B N.Plain i = isPlain (B .c) (B .shape) i
-anyBound B (N.Code b) i = isCode (B .c) (B .shape) i
-anyBound B (N.CellOf j) i = alike (B .c) (B .shape) j i
-
--- likeness that forgets trust: no "with equal trust"
-unfoldable pub alikeAnyTrust : View → ℕ → ℕ → ℕ → Bool
-alikeAnyTrust B zero i j = true
-alikeAnyTrust B (suc n) i j =
-    either (both (isPlain (B .c) (B .shape) i) (isPlain (B .c) (B .shape) j))
-    (either (both (isCode (B .c) (B .shape) i) (both (isCode (B .c) (B .shape) j) (eqb (boundOf (B .c) (B .shape) i .0) (boundOf (B .c) (B .shape) j .0))))
-    (both (isCell (B .c) (B .shape) i)
-    (both (isCell (B .c) (B .shape) j) (alikeAnyTrust B n (contentOf (B .c) (B .shape) i) (contentOf (B .c) (B .shape) j)))))
-
-unfoldable pub anyTrust : View → Known → ℕ → Bool
-anyTrust B N.Unknown i = false
-anyTrust B N.Plain i = isPlain (B .c) (B .shape) i
-anyTrust B (N.Code b) i = fits (B .c) (B .shape) (N.Code b) i
-anyTrust B (N.CellOf j) i = alikeAnyTrust B (suc j) j i
-
--- The machine with an outsider at C + 1 let in: it asks the book for C only to know an outsider, and whether event 83's trust is low.
-abbrev pub letIn : Book → Book
-letIn K = record { c = label (suc (K .c .0)); shapes = K .shapes; cells = K .cells; blocks = K .blocks }
-
-pub record NeededOutside (machine : Book → Book) : Type 0 where
-  pub bytes : List ℕ
-  pub events : List Event
-  pub accepted : verdict bytes ≡ Accepted 2 1 1 0
-  pub broken :
-      Sentences (parse bytes)
-      (stateAfter lists tableSize (machine (parse bytes)) (freshState lists (parse bytes) (launchLabel (parse bytes))) events) → ⊥
-
--- the places, one by one; proofs/Weakened.antt has the books and the events
-pub record EachNeeded : Type 1 where
-  pub exec-trust : Needed execUntrusted
-  pub write-effect : Needed writeThroughLow
-  pub relabel-label : Needed relabelBelow
-  pub new-lowered : Needed newAtBound
-  pub lower-low : Needed lowerStuckLow
-  pub read-trust : Needed readAtP
-  pub code-bound : Needed (fittedBy anyBound)
-  pub like-trust : Needed (fittedBy anyTrust)
-  pub outsider-low : NeededOutside letIn

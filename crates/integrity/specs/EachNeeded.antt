@@ -1,0 +1,75 @@
+-- The places of the rules and of the machine that the theorem needs, one by one, each by the name of its mark. proofs/EachNeeded.antt has the books
+-- and the events.
+--     ShapesNeeded, StepsNeeded     the typing rules: shapes and declared cells; steps
+--     MachineNeeded                 the machine
+--     EachNeeded                    all of them
+-- Assumes nothing.
+use Rattle.integrity.specs.Weakened.{Needed}
+use Rattle.integrity.specs.Loosened.{NeededThere}
+
+pub record ShapesNeeded : Type 0 where
+  pub declared-trust : Needed "declared: trust above C"
+  pub declared-label : Needed "declared: label at least trust"
+  pub declared-fits : Needed "declared: a fitting value"
+  pub code-bound : Needed "fits: bound at most B"
+  pub cell-alike : Needed "fits: others when alike"
+  pub alike-first-plain : Needed "alike: the first is plain"
+  pub alike-second-plain : Needed "alike: the second is plain"
+  pub alike-first-code : Needed "alike: the first is code"
+  pub alike-second-code : Needed "alike: the second is code"
+  pub alike-larger-bound : Needed "alike: the first bound is no larger"
+  pub alike-smaller-bound : Needed "alike: the first bound is no smaller"
+  pub alike-first-cell : Needed "alike: the first is a cell"
+  pub alike-second-cell : Needed "alike: the second is a cell"
+  pub alike-higher-trust : Needed "alike: the first trust is no higher"
+  pub alike-lower-trust : Needed "alike: the first trust is no lower"
+  pub alike-low-trust : Needed "alike: low trust"
+  pub alike-contents : Needed "alike: alike contents"
+
+pub record StepsNeeded : Type 0 where
+  pub p-bound : Needed "P begins as the bound"
+  pub p-low : Needed "P at or below C"
+  pub low-new : Needed "low P: except new"
+  pub low-new-trust : Needed "low P: new with trust above C"
+  pub add-first : Needed "add: the first's effect"
+  pub add-second : Needed "add: the second's effect"
+  pub lower-p : Needed "lower: Q is above P"
+  pub lower-c : Needed "lower: Q is above C"
+  pub lower-q : Needed "lower: P is Q"
+  pub new-low : Needed "new: low trust"
+  pub new-lowered : Needed "new: an earlier lower"
+  pub new-fits : Needed "new: the content fits"
+  pub new-p : Needed "new: trust is at most P"
+  pub new-effect : Needed "new: trust is at most its effect"
+  pub read-effect : Needed "read: w of low effect"
+  pub read-trust : Needed "read: the smaller of S and P"
+  pub write-w : Needed "write: w of used effect above C"
+  pub write-p : Needed "write: P is below S"
+  pub write-low : Needed "write: low S"
+  pub write-fits : Needed "write: a fits"
+  pub write-effect : Needed "write: S is at most its used effect"
+  pub relabel-w : Needed "relabel: w of used effect above C"
+  pub relabel-s : Needed "relabel: P is below S"
+  pub relabel-o : Needed "relabel: P is below O"
+  pub relabel-label : Needed "relabel: S is at most O"
+  pub relabel-low : Needed "relabel: low S"
+  pub exec-w : Needed "exec: w of used effect above C"
+  pub exec-bound : Needed "exec: bound at least P"
+  pub exec-trust : Needed "exec: S at least P"
+  pub start-bound : Needed "start: bound at least P"
+
+pub record MachineNeeded : Type 0 where
+  pub write-q : NeededThere "81: Q above C"
+  pub relabel-q : NeededThere "82: Q above C"
+  pub new-trust : NeededThere "83: trust above C"
+  pub exec-q : NeededThere "84: Q above C"
+  pub start-q : NeededThere "85: Q above C"
+  pub write-label : NeededThere "write: label at most the job's"
+  pub relabel-old : NeededThere "relabel: old label at most the job's"
+  pub lower-label : NeededThere "lower: Q is above the job's label"
+  pub exec-lower : NeededThere "exec: the lower of the two labels"
+
+pub record EachNeeded : Type 0 where
+  pub shapes : ShapesNeeded
+  pub steps : StepsNeeded
+  pub machine : MachineNeeded

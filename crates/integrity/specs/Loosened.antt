@@ -1,0 +1,124 @@
+-- The machine once more, with a mark at each of its conditions that the theorem needs. Where no place is weakened, this is the machine:
+-- proofs/ByMachine.antt.
+--     outcomeBy, stateBy     an event, a list of events, with a place weakened
+--     NeededThere            an accepted book and events that break a sentence: the theorem would be false of the weakened machine
+-- Nothing else is built on these definitions. Assumes nothing.
+use Prim.Native.Nat.{ℕ, suc}
+use Prim.Native.String.{String}
+use mathlib.Core.Path.{_≡_}
+use mathlib.Core.Bool.{Bool, not}
+use mathlib.Core.List.{List, [], _∷_}
+use lib.ListN.{getElem?}
+use Rattle.labels.specs.declared.Label.{Label}
+use Rattle.labels.specs.Labels.{reaches, isHigh}
+use Rattle.book.specs.declared.Step.{Step}
+use Rattle.book.specs.declared.Step.the-variants.{Put, Name, Code, Add, New, Read, Write, Relabel, Lower, Start, Exec}
+use Rattle.book.specs.Control.{both, onSome}
+use Rattle.book.specs.Book.{Book, parse}
+use Rattle.book.specs.Refusals.{hasCellShape}
+use Rattle.typing.specs.declared.Verdict.the-variants.{Accepted}
+use Rattle.typing.specs.Verdict.{verdict}
+use Rattle.machine.specs.declared.Event.{Event}
+use Rattle.machine.specs.declared.Event.the-variants.{StepOf, WriteBy, RelabelBy, NewBy, ExecBy, StartBy}
+use Rattle.machine.specs.Control.{given, onCode}
+use Rattle.machine.specs.Histories.{History, append, lists}
+use Rattle.machine.specs.States.{Traced, Job, State}
+use Rattle.machine.specs.Acts.{Effect, blocked, keep, store, launch, unless, isFree, execLabel, acted, freshJob, making, starting}
+use Rattle.machine.specs.Steps.{Turn, register, turn, stay, through, turnOf}
+use Rattle.machine.specs.Events.{Outcome, tableSize, launchLabel, finished, noSuch, blockOf, trustOf, isOutsider, isLabel, isBlock, isCell, isValue, unchanged, landed, turnLanded, ifSuch, brought, freshState}
+use Rattle.integrity.specs.Integrity.{Sentences}
+use Rattle.integrity.specs.Weakened.{instead, asked, raised}
+
+-- the place that is weakened, by its name; "" weakens none
+module _ (weakened : String) where
+  -- by an actor of label l and history h
+  module _ (s : State History) (l : Label) (h : History) where
+    -- "write: blocked unless w is a cell with label at most the job's"
+    unfoldable pub writingBy : ℕ → Traced History → Effect History
+    writingBy k v =
+        onSome (getElem? (s .cells) k) blocked
+        (λ c. unless (asked weakened "write: label at most the job's" (reaches l (c .label)))
+        (store k (record { shape = c .shape; label = c .label; content = acted lists h v })))
+
+    -- "relabel: blocked unless w is a cell and its old and new label are at most the job's."
+    unfoldable pub relabellingBy : ℕ → Label → Effect History
+    relabellingBy k o =
+        onSome (getElem? (s .cells) k) blocked
+        (λ c. unless (both (asked weakened "relabel: old label at most the job's" (reaches l (c .label))) (reaches l o))
+        (store k (record { shape = c .shape; label = o; content = c .content })))
+
+    -- "exec: .. a job at the lower of the two labels, history: caller's, code's, new label."
+    unfoldable pub executingBy : ℕ → Effect History
+    executingBy k =
+        onSome (getElem? (s .cells) k) blocked
+        (λ c. onCode (c .content .value) blocked
+        (λ b. let m = instead weakened "exec: the lower of the two labels" (c .label) (execLabel l (c .label)) in
+        unless (isFree tableSize (s .jobs)) (launch (freshJob lists b m (append (append h (c .content .history)) (lists .one m))))))
+
+  -- "lower Q: blocked if Q is above the job's label; else the label is Q, appended to the job's history."
+  unfoldable pub loweringBy : Job History → Label → Turn History
+  loweringBy j q =
+      given (asked weakened "lower: Q is above the job's label" (reaches (j .label) q))
+      (turn lists
+      (record { block = j .block; position = suc (j .position); label = q; registers = j .registers; history = append (j .history) (lists .one q) })
+      keep)
+      (stay lists j)
+
+  module _ (s : State History) (j : Job History) where
+    -- a step that has no mark
+    abbrev pub same : Step → Turn History
+    same p = turnOf lists tableSize s j p
+
+    unfoldable pub turnBy : Step → Turn History
+    turnBy (Put r n) = same (Put r n)
+    turnBy (Name r k) = same (Name r k)
+    turnBy (Code r b) = same (Code r b)
+    turnBy (Add r a b) = same (Add r a b)
+    turnBy (New r i a) = same (New r i a)
+    turnBy (Read r w) = same (Read r w)
+    turnBy (Write w a) = through lists j w (λ k. writingBy s (j .label) (j .history) k (register lists j a))
+    turnBy (Relabel w o) = through lists j w (λ k. relabellingBy s (j .label) (j .history) k o)
+    turnBy (Lower q) = loweringBy j q
+    turnBy (Start b) = same (Start b)
+    turnBy (Exec w) = through lists j w (executingBy s (j .label) (j .history))
+
+  module _ (K : Book) where
+    -- "Q above C" is no such
+    abbrev pub outsider : String → Label → Bool
+    outsider place q = reaches (raised weakened place (K .c)) q
+
+    -- event 83: "a shape that is no cell shape or has trust above C" is no such
+    abbrev pub lowShape : ℕ → Bool
+    lowShape i = both (hasCellShape K i) (not (isHigh (trustOf K i) (raised weakened "83: trust above C" (K .c))))
+
+    unfoldable pub outcomeBy : State History → Event → Outcome History
+    outcomeBy s (StepOf i) =
+        onSome (getElem? (s .jobs) i) (unchanged noSuch s)
+        (λ j. onSome (getElem? (blockOf K (j .block) .steps) (j .position)) (unchanged finished s) (λ p. turnLanded s i (turnBy s j p)))
+    outcomeBy s (WriteBy q k v n) =
+        ifSuch s (both (outsider "81: Q above C" q) (both (isCell s k) (isValue K s v n)))
+        (landed s s (writingBy s q (lists .one q) k (brought lists q v n)))
+    outcomeBy s (RelabelBy q k o) =
+        ifSuch s (both (outsider "82: Q above C" q) (both (isCell s k) (isLabel o))) (landed s s (relabellingBy s q (lists .one q) k o))
+    outcomeBy s (NewBy q i v n) =
+        ifSuch s (both (isOutsider K q) (both (lowShape i) (isValue K s v n)))
+        (landed s s (making lists tableSize s q (lists .one q) i (brought lists q v n)))
+    outcomeBy s (ExecBy q k) =
+        ifSuch s (both (outsider "84: Q above C" q) (isCell s k)) (landed s s (executingBy s q (lists .one q) k))
+    outcomeBy s (StartBy q b) =
+        ifSuch s (both (outsider "85: Q above C" q) (isBlock K b)) (landed s s (starting lists tableSize s q (lists .one q) b))
+
+    unfoldable pub stateBy : State History → List Event → State History
+    stateBy s [] = s
+    stateBy s (e ∷ es) = stateBy (outcomeBy s e .state) es
+
+-- An accepted book, and events after which the machine weakened at this place has broken a sentence.
+pub record NeededThere (place : String) : Type 0 where
+  pub bytes : List ℕ
+  pub events : List Event
+  pub shapes : ℕ
+  pub cells : ℕ
+  pub blocks : ℕ
+  pub steps : ℕ
+  pub accepted : verdict bytes ≡ Accepted shapes cells blocks steps
+  pub broken : Sentences (parse bytes) (stateBy place (parse bytes) (freshState lists (parse bytes) (launchLabel (parse bytes))) events) → ⊥
