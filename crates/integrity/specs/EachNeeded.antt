@@ -1,5 +1,5 @@
--- The places of the rules and of the machine that the theorem needs, one by one, each by the name of its mark. proofs/EachNeeded.antt has the books
--- and the events.
+-- The places of the rules and of the machine that the theorem needs, one by one, each by the name of its mark in Weakened or Loosened.
+-- proofs/EachNeeded.antt has the books and the events.
 --     ShapesNeeded, StepsNeeded     the typing rules: shapes and declared cells; steps
 --     MachineNeeded                 the machine
 --     EachNeeded                    all of them
@@ -8,7 +8,7 @@ use Rattle.integrity.specs.Weakened.{Needed}
 use Rattle.integrity.specs.Loosened.{NeededThere}
 
 pub record ShapesNeeded : Type 0 where
-  pub declared-trust : Needed "declared: trust above C"
+  pub declared-high : Needed "declared: trust above C"
   pub declared-label : Needed "declared: label at least trust"
   pub declared-fits : Needed "declared: a fitting value"
   pub code-bound : Needed "fits: bound at most B"
@@ -23,20 +23,20 @@ pub record ShapesNeeded : Type 0 where
   pub alike-second-cell : Needed "alike: the second is a cell"
   pub alike-higher-trust : Needed "alike: the first trust is no higher"
   pub alike-lower-trust : Needed "alike: the first trust is no lower"
-  pub alike-low-trust : Needed "alike: low trust"
+  pub alike-high : Needed "alike: trust above C"
   pub alike-contents : Needed "alike: alike contents"
 
 pub record StepsNeeded : Type 0 where
   pub p-bound : Needed "P begins as the bound"
   pub p-low : Needed "P at or below C"
-  pub low-new : Needed "low P: except new"
-  pub low-new-trust : Needed "low P: new with trust above C"
+  pub new-low : Needed "new at low P"
+  pub new-low-high : Needed "new at low P: trust above C"
   pub add-first : Needed "add: the first's effect"
   pub add-second : Needed "add: the second's effect"
   pub lower-p : Needed "lower: Q is above P"
   pub lower-c : Needed "lower: Q is above C"
   pub lower-q : Needed "lower: P is Q"
-  pub new-low : Needed "new: low trust"
+  pub new-high : Needed "new: trust above C"
   pub new-lowered : Needed "new: an earlier lower"
   pub new-fits : Needed "new: the content fits"
   pub new-p : Needed "new: trust is at most P"
@@ -45,14 +45,14 @@ pub record StepsNeeded : Type 0 where
   pub read-trust : Needed "read: the smaller of S and P"
   pub write-w : Needed "write: w of used effect above C"
   pub write-p : Needed "write: P is below S"
-  pub write-low : Needed "write: low S"
+  pub write-high : Needed "write: S above C"
   pub write-fits : Needed "write: a fits"
   pub write-effect : Needed "write: S is at most its used effect"
   pub relabel-w : Needed "relabel: w of used effect above C"
   pub relabel-s : Needed "relabel: P is below S"
   pub relabel-o : Needed "relabel: P is below O"
   pub relabel-label : Needed "relabel: S is at most O"
-  pub relabel-low : Needed "relabel: low S"
+  pub relabel-high : Needed "relabel: S above C"
   pub exec-w : Needed "exec: w of used effect above C"
   pub exec-bound : Needed "exec: bound at least P"
   pub exec-trust : Needed "exec: S at least P"
@@ -66,6 +66,10 @@ pub record MachineNeeded : Type 0 where
   pub start-q : NeededThere "85: Q above C"
   pub write-label : NeededThere "write: label at most the job's"
   pub relabel-old : NeededThere "relabel: old label at most the job's"
+  pub relabel-new : NeededThere "relabel: new label at most the job's"
+  pub new-label : NeededThere "new: with the job's label"
+  pub lower-to : NeededThere "lower: the label is Q"
+  pub start-label : NeededThere "start: at this label"
   pub lower-label : NeededThere "lower: Q is above the job's label"
   pub exec-lower : NeededThere "exec: the lower of the two labels"
 

@@ -1,4 +1,4 @@
--- The machine once more, with a mark at each of its conditions that the theorem needs. Where no place is weakened, this is the machine:
+-- The machine once more, with a mark at each place that the theorem needs. Where no place is weakened, this is the machine:
 -- proofs/ByMachine.antt.
 --     outcomeBy, stateBy     an event, a list of events, with a place weakened
 --     NeededThere            an accepted book and events that break a sentence: the theorem would be false of the weakened machine
@@ -8,9 +8,10 @@ use Prim.Native.String.{String}
 use mathlib.Core.Path.{_≡_}
 use mathlib.Core.Bool.{Bool, not}
 use mathlib.Core.List.{List, [], _∷_}
-use lib.ListN.{getElem?}
+use lib.ListN.{length, getElem?}
 use Rattle.labels.specs.declared.Label.{Label}
-use Rattle.labels.specs.Labels.{reaches, isHigh}
+use Rattle.labels.specs.Labels.{label, reaches, isHigh}
+use Rattle.book.specs.declared.Value.the-variants.{CellName}
 use Rattle.book.specs.declared.Step.{Step}
 use Rattle.book.specs.declared.Step.the-variants.{Put, Name, Code, Add, New, Read, Write, Relabel, Lower, Start, Exec}
 use Rattle.book.specs.Control.{both, onSome}
@@ -24,8 +25,8 @@ use Rattle.machine.specs.Control.{given, onCode}
 use Rattle.machine.specs.Histories.{History, append, lists}
 use Rattle.machine.specs.States.{Traced, Job, State}
 use Rattle.machine.specs.Acts.{Effect, blocked, keep, store, launch, unless, isFree, execLabel, acted, freshJob, making, starting}
-use Rattle.machine.specs.Steps.{Turn, register, turn, stay, through, turnOf}
-use Rattle.machine.specs.Events.{Outcome, tableSize, launchLabel, finished, noSuch, blockOf, trustOf, isOutsider, isLabel, isBlock, isCell, isValue, unchanged, landed, turnLanded, ifSuch, brought, freshState}
+use Rattle.machine.specs.Steps.{Turn, register, turn, stay, moved, gets, through, turnOf}
+use Rattle.machine.specs.Events.{Outcome, tableSize, topLabel, launchLabel, finished, noSuch, blockOf, trustOf, isOutsider, isLabel, isBlock, isCell, isValue, unchanged, landed, turnLanded, ifSuch, brought, freshState}
 use Rattle.integrity.specs.Integrity.{Sentences}
 use Rattle.integrity.specs.Weakened.{instead, asked, raised}
 
@@ -44,10 +45,20 @@ module _ (weakened : String) where
     unfoldable pub relabellingBy : ℕ → Label → Effect History
     relabellingBy k o =
         onSome (getElem? (s .cells) k) blocked
-        (λ c. unless (both (asked weakened "relabel: old label at most the job's" (reaches l (c .label))) (reaches l o))
+        (λ c. unless (both (asked weakened "relabel: old label at most the job's" (reaches l (c .label)))
+        (asked weakened "relabel: new label at most the job's" (reaches l o)))
         (store k (record { shape = c .shape; label = o; content = c .content })))
 
-    -- "exec: .. a job at the lower of the two labels, history: caller's, code's, new label."
+    -- "new: .. a cell with the job's label"; where this place is weakened, with label 0
+    abbrev pub makingBy : ℕ → Traced History → Effect History
+    makingBy i v = making lists tableSize s (instead weakened "new: with the job's label" (label 0) l) h i v
+
+    -- "start: .. a job at this label"; where this place is weakened, at 15
+    abbrev pub startingBy : ℕ → Effect History
+    startingBy b = starting lists tableSize s (instead weakened "start: at this label" topLabel l) h b
+
+    -- "exec: .. a job at the lower of the two labels, history: caller's, code's, new label."; where this place is weakened, at
+    -- the cell's
     unfoldable pub executingBy : ℕ → Effect History
     executingBy k =
         onSome (getElem? (s .cells) k) blocked
@@ -60,7 +71,7 @@ module _ (weakened : String) where
   loweringBy j q =
       given (asked weakened "lower: Q is above the job's label" (reaches (j .label) q))
       (turn lists
-      (record { block = j .block; position = suc (j .position); label = q; registers = j .registers; history = append (j .history) (lists .one q) })
+      (record { block = j .block; position = suc (j .position); label = instead weakened "lower: the label is Q" (j .label) q; registers = j .registers; history = append (j .history) (lists .one q) })
       keep)
       (stay lists j)
 
@@ -74,12 +85,13 @@ module _ (weakened : String) where
     turnBy (Name r k) = same (Name r k)
     turnBy (Code r b) = same (Code r b)
     turnBy (Add r a b) = same (Add r a b)
-    turnBy (New r i a) = same (New r i a)
+    turnBy (New r i a) =
+        turn lists (gets lists j r (CellName (length (s .cells))) (j .history)) (makingBy s (j .label) (j .history) i (register lists j a))
     turnBy (Read r w) = same (Read r w)
     turnBy (Write w a) = through lists j w (λ k. writingBy s (j .label) (j .history) k (register lists j a))
     turnBy (Relabel w o) = through lists j w (λ k. relabellingBy s (j .label) (j .history) k o)
     turnBy (Lower q) = loweringBy j q
-    turnBy (Start b) = same (Start b)
+    turnBy (Start b) = turn lists (moved lists j) (startingBy s (j .label) (j .history) b)
     turnBy (Exec w) = through lists j w (executingBy s (j .label) (j .history))
 
   module _ (K : Book) where
@@ -102,11 +114,11 @@ module _ (weakened : String) where
         ifSuch s (both (outsider "82: Q above C" q) (both (isCell s k) (isLabel o))) (landed s s (relabellingBy s q (lists .one q) k o))
     outcomeBy s (NewBy q i v n) =
         ifSuch s (both (isOutsider K q) (both (lowShape i) (isValue K s v n)))
-        (landed s s (making lists tableSize s q (lists .one q) i (brought lists q v n)))
+        (landed s s (makingBy s q (lists .one q) i (brought lists q v n)))
     outcomeBy s (ExecBy q k) =
         ifSuch s (both (outsider "84: Q above C" q) (isCell s k)) (landed s s (executingBy s q (lists .one q) k))
     outcomeBy s (StartBy q b) =
-        ifSuch s (both (outsider "85: Q above C" q) (isBlock K b)) (landed s s (starting lists tableSize s q (lists .one q) b))
+        ifSuch s (both (outsider "85: Q above C" q) (isBlock K b)) (landed s s (startingBy s q (lists .one q) b))
 
     unfoldable pub stateBy : State History → List Event → State History
     stateBy s [] = s

@@ -36,7 +36,7 @@ use Rattle.integrity.specs.Integrity.{Sentences}
 
 -- the place that is weakened, by its name; "" weakens none
 module _ (weakened : String) where
-  -- y; where this place is weakened, x
+  -- y; where this place is weakened, x in its stead
   abbrev pub instead : {A : Type 0} → String → A → A → A
   instead place x y = if eqt weakened place then x else y
 
@@ -49,22 +49,23 @@ module _ (weakened : String) where
   raised place c = instead place (label (suc (c .0))) c
 
   module _ (c : Label) (shape : ℕ → Shape) where
-    -- "trust above C"
+    -- "trust above C"; where this place is weakened, above C + 1
     abbrev pub high : String → ℕ → Bool
     high place i = highTrust (raised place c) shape i
 
-    -- a trust, "at or below C .. 0"
+    -- "a trust .. at or below C counts as 0"; where this place is weakened, at or below C + 1
     abbrev pub trustBy : String → ℕ → ℕ
     trustBy place i = trustOf (raised place c) shape i .0
 
     -- "Two shapes are alike when both are plain, both code with one bound, or both cells with equal trust and alike contents."
+    -- Where "one bound" is weakened, a larger or a smaller one will do; and so with "equal trust".
     unfoldable pub alikeBy : ℕ → ℕ → ℕ → Bool
     alikeBy zero i j = true
     alikeBy (suc n) i j =
         let b = boundOf c shape i .0 in
         let d = boundOf c shape j .0 in
-        let s = trustBy "alike: low trust" i in
-        let u = trustBy "alike: low trust" j in
+        let s = trustBy "alike: trust above C" i in
+        let u = trustBy "alike: trust above C" j in
         either (both (asked "alike: the first is plain" (isPlain c shape i)) (asked "alike: the second is plain" (isPlain c shape j)))
         (either
         (both (asked "alike: the first is code" (isCode c shape i))
@@ -88,14 +89,15 @@ module _ (weakened : String) where
 
     -- "With P at or below C every step passes, except new with trust above C"
     abbrev pub lowNewBy : State → ℕ → ℕ → Typed
-    lowNewBy t r i = need (asked "low P: except new" (not (high "low P: new with trust above C" i))) (givesLow t r)
+    lowNewBy t r i = need (asked "new at low P" (not (high "new at low P: trust above C" i))) (givesLow t r)
 
-    -- "new: low trust passes; otherwise an earlier lower must stand in the block, the content fits, and trust is at most its used effect"
+    -- "new: low trust passes; otherwise an earlier lower must stand in the block, the content fits, and trust is at most its used effect",
+    -- which is the smaller of its effect and P
     abbrev pub makingBy : State → ℕ → ℕ → ℕ → Typed
     makingBy t r i a =
         need
         (both (isCell c shape i)
-        (either (not (high "new: low trust" i))
+        (either (not (high "new: trust above C" i))
         (both (asked "new: an earlier lower" (t .lowered))
         (both (asked "new: the content fits" (fitsBy (known c t a) (contentOf c shape i)))
         (isMet (trustOf c shape i)
@@ -109,25 +111,26 @@ module _ (weakened : String) where
         else onCell (cellBy "read: w of low effect" t w)
         (λ i. gives t r (knownOf c shape (contentOf c shape i)) (instead "read: the smaller of S and P" (t .p) (capped (trustOf c shape i) (t .p))))
 
-    -- "write: stuck if P is below S; low S passes; else a fits and S is at most its used effect."
+    -- "write: stuck if P is below S; low S passes; else a fits and S is at most its used effect." Where "P is below S" is weakened, it is stuck
+    -- at P = S too.
     abbrev pub writingBy : State → ℕ → ℕ → Typed
     writingBy t w a =
         onCell (cellBy "write: w of used effect above C" t w)
         (λ i. free (instead "write: P is below S" (not (covers (trustOf c shape i) (t .p))) (isMet (trustOf c shape i) (t .p)))
         (need
-        (either (not (high "write: low S" i))
+        (either (not (high "write: S above C" i))
         (both (asked "write: a fits" (fitsBy (known c t a) (contentOf c shape i)))
         (asked "write: S is at most its used effect" (isMet (trustOf c shape i) (used t a)))))
         (passes t)))
 
-    -- "relabel to O: stuck if P is below S or O; else S is at most O."
+    -- "relabel to O: stuck if P is below S or O; else S is at most O." Where "P is below" is weakened, it is stuck at the same label too.
     abbrev pub relabellingBy : State → ℕ → Label → Typed
     relabellingBy t w o =
         onCell (cellBy "relabel: w of used effect above C" t w)
         (λ i. free
         (both (instead "relabel: P is below S" (not (covers (trustOf c shape i) (t .p))) (isMet (trustOf c shape i) (t .p)))
         (instead "relabel: P is below O" (isAbove (t .p) o) (reaches (t .p) o)))
-        (need (asked "relabel: S is at most O" (isMet (trustOf (raised "relabel: low S" c) shape i) o)) (passes t)))
+        (need (asked "relabel: S is at most O" (isMet (trustOf (raised "relabel: S above C" c) shape i) o)) (passes t)))
 
     -- "exec: the content is code with bound at least P, and S at least P."
     abbrev pub executingBy : State → ℕ → Typed
@@ -143,7 +146,8 @@ module _ (weakened : String) where
         (gives t r N.Plain
         (instead "add: the first's effect" (used t b) (instead "add: the second's effect" (used t a) (lower (used t a) (used t b)))))
 
-    -- "lower Q, at every P: stuck if Q is above both P and C; else P is Q."
+    -- "lower Q, at every P: stuck if Q is above both P and C; else P is Q." Where "above P" is weakened, it is stuck at P = Q too; where "above C"
+    -- is, it is stuck if Q is above P.
     abbrev pub loweringBy : State → Label → Typed
     loweringBy t q =
         free (either (instead "lower: Q is above P" (isAbove (t .p) q) (reaches (t .p) q)) (instead "lower: Q is above C" false (isLow c q)))
@@ -184,7 +188,7 @@ module _ (weakened : String) where
     stepBy t (Start b) = marked t (Start b) (startingBy t (B .bound b))
     stepBy t (Exec w) = marked t (Exec w) (executingBy (B .c) (B .shape) t w)
 
-    -- "P begins as the bound."
+    -- "P begins as the bound."; where this place is weakened, one below it
     abbrev pub freshBy : Label → State
     freshBy b = fresh (instead "P begins as the bound" (label (b .0 - 1)) b)
 
@@ -208,8 +212,8 @@ acceptedBy weakened K =
     both (every (declaredBy weakened B) (K .cells))
     (every (λ (b : Block). walkBy weakened B (b .steps) (passes (freshBy weakened B (b .bound)))) (K .blocks))
 
--- A readable book that the rules weakened at this place accept and the rules refuse, and the verdict too, and events after which a sentence is
--- broken.
+-- A readable book that the rules accept where this place is weakened and refuse where none is, as the verdict does; and events after which a
+-- sentence is broken.
 pub record Needed (place : String) : Type 0 where
   pub bytes : List ℕ
   pub events : List Event
