@@ -152,6 +152,11 @@ abbrev madeLowered : List ℕ
 madeLowered =
     book (plain ∷ cell 0 9 ∷ block 12 ∷ lowerTo 8 ∷ new 0 1 0 ∷ [])
 
+-- A15: the block's bound is 2; at 3 its lower is done, and it makes a cell of trust 9
+abbrev loweredLow : List ℕ
+loweredLow =
+    book (plain ∷ cell 0 9 ∷ block 2 ∷ lowerTo 3 ∷ new 0 1 0 ∷ [])
+
 -- cell 0, of this trust and label
 abbrev held : ℕ → List ℕ
 held trust =
@@ -287,8 +292,9 @@ each-needed =
             lower-p =
                 needed (book (plain ∷ cell 0 9 ∷ declare 1 9 number 5 ∷ block 12 ∷ lowerTo 12 ∷ name 0 0 ∷ relabel 0 0 ∷ []))
                 (steps 3 0 []) 8 21 refl;
-            -- The block's bound is 2. An outsider starts it at 3, where lower 3 is done; then new makes a cell of trust 9 and label 3 (A15).
-            lower-c = needed (book (plain ∷ cell 0 9 ∷ block 2 ∷ lowerTo 3 ∷ new 0 1 0 ∷ [])) (StartBy (label 3) 0 ∷ steps 2 1 []) 8 10 refl;
+            -- An outsider starts it at 3.
+            lower-c = needed loweredLow (StartBy (label 3) 0 ∷ steps 2 1 []) 8 10 refl;
+            lower-both = needed loweredLow (StartBy (label 3) 0 ∷ steps 2 1 []) 8 10 refl;
             -- A11.
             lower-q = needed madeLowered (steps 2 0 []) 8 10 refl;
             -- An outsider starts block 0 at 3.

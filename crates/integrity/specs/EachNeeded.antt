@@ -35,6 +35,7 @@ pub record StepsNeeded : Type 0 where
   pub add-second : Needed "add: the second's effect"
   pub lower-p : Needed "lower: Q is above P"
   pub lower-c : Needed "lower: Q is above C"
+  pub lower-both : Needed "lower: both P and C"
   pub lower-q : Needed "lower: P is Q"
   pub new-high : Needed "new: trust above C"
   pub new-lowered : Needed "new: an earlier lower"

@@ -146,11 +146,13 @@ module _ (weakened : String) where
         (gives t r N.Plain
         (instead "add: the first's effect" (used t b) (instead "add: the second's effect" (used t a) (lower (used t a) (used t b)))))
 
-    -- "lower Q, at every P: stuck if Q is above both P and C; else P is Q." Where "above P" is weakened, it is stuck at P = Q too; where "above C"
-    -- is, it is stuck if Q is above P.
+    -- "lower Q, at every P: stuck if Q is above both P and C; else P is Q." Where "above P" or "above C" is weakened, it is stuck at the same label
+    -- too; where "and C" is, if Q is above P.
     abbrev pub loweringBy : State → Label → Typed
     loweringBy t q =
-        free (either (instead "lower: Q is above P" (isAbove (t .p) q) (reaches (t .p) q)) (instead "lower: Q is above C" false (isLow c q)))
+        free
+        (either (instead "lower: Q is above P" (isAbove (t .p) q) (reaches (t .p) q))
+        (instead "lower: Q is above C" (isAbove c q) (instead "lower: both P and C" false (isLow c q))))
         (lowered t (instead "lower: P is Q" (t .p) q))
 
   -- "start: the block's bound is at least P."
