@@ -71,7 +71,13 @@ module _ (weakened : String) where
   loweringBy j q =
       given (asked weakened "lower: Q is above the job's label" (reaches (j .label) q))
       (turn lists
-      (record { block = j .block; position = suc (j .position); label = instead weakened "lower: the label is Q" (j .label) q; registers = j .registers; history = append (j .history) (lists .one q) })
+      (record {
+        block = j .block;
+        position = suc (j .position);
+        label = instead weakened "lower: the label is Q" (j .label) q;
+        registers = j .registers;
+        history = append (j .history) (lists .one q);
+      })
       keep)
       (stay lists j)
 
@@ -133,4 +139,6 @@ pub record NeededThere (place : String) : Type 0 where
   pub blocks : ℕ
   pub steps : ℕ
   pub accepted : verdict bytes ≡ Accepted shapes cells blocks steps
-  pub broken : Sentences (parse bytes) (stateBy place (parse bytes) (freshState lists (parse bytes) (launchLabel (parse bytes))) events) → ⊥
+  pub broken :
+      Sentences (parse bytes)
+      (stateBy place (parse bytes) (freshState lists (parse bytes) (launchLabel (parse bytes))) events) → ⊥

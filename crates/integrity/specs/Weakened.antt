@@ -137,7 +137,9 @@ module _ (weakened : String) where
     executingBy t w =
         onCell (cellBy "exec: w of used effect above C" t w)
         (λ i. onCode (knownOf c shape (contentOf c shape i))
-        (λ k. need (both (asked "exec: bound at least P" (reaches k (t .p))) (asked "exec: S at least P" (covers (trustOf c shape i) (t .p)))) (passes t)))
+        (λ k. need
+        (both (asked "exec: bound at least P" (reaches k (t .p))) (asked "exec: S at least P" (covers (trustOf c shape i) (t .p))))
+        (passes t)))
 
     -- "add: operands of effect above C must be plain; least effect."
     abbrev pub addingBy : State → ℕ → ℕ → ℕ → Typed
@@ -225,4 +227,6 @@ pub record Needed (place : String) : Type 0 where
   pub accepted : acceptedBy place (parse bytes) ≡ true
   pub strict : acceptedBy "" (parse bytes) ≡ false
   pub refused : verdict bytes ≡ Refused number offset
-  pub broken : Sentences (parse bytes) (stateAfter lists tableSize (parse bytes) (freshState lists (parse bytes) (launchLabel (parse bytes))) events) → ⊥
+  pub broken :
+      Sentences (parse bytes)
+      (stateAfter lists tableSize (parse bytes) (freshState lists (parse bytes) (launchLabel (parse bytes))) events) → ⊥
