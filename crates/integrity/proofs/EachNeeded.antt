@@ -275,6 +275,11 @@ each-needed =
             alike-lower-trust = needed (namedAsTrusted 9) (WriteBy (label 3) 0 0 7 ∷ steps 5 0 []) 7 28 refl;
             alike-high = needed (namedAsTrusted 4) (WriteBy (label 3) 0 0 7 ∷ steps 5 0 []) 7 28 refl;
             alike-contents = needed codeAsLarger (steps 3 0 (steps 2 1 [])) 7 35 refl;
+            -- As with the smaller bound, but by a name of a name: cell 3 names cell 2, which names cell 1.
+            alike-depth =
+                needed (book (code 12 ∷ cell 0 12 ∷ cell 1 12 ∷ cell 2 12 ∷ code 3 ∷ cell 4 12 ∷ cell 5 12 ∷ plain ∷ cell 7 12
+                ∷ declare 8 12 number 5 ∷ declare 5 12 coding 1 ∷ declare 6 12 naming 1 ∷ declare 3 12 naming 2 ∷ block 12 ∷ name 0 3
+                ∷ read 0 0 ∷ read 0 0 ∷ exec 0 ∷ spoil ∷ [])) (steps 4 0 (steps 2 1 [])) 7 49 refl;
           };
       steps =
           record {

@@ -25,6 +25,7 @@ pub record ShapesNeeded : Type 0 where
   pub alike-lower-trust : Needed "alike: the first trust is no lower"
   pub alike-high : Needed "alike: trust above C"
   pub alike-contents : Needed "alike: alike contents"
+  pub alike-depth : Needed "alike: contents of contents"
 
 pub record StepsNeeded : Type 0 where
   pub p-bound : Needed "P begins as the bound"

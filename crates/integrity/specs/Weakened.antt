@@ -76,12 +76,13 @@ module _ (weakened : String) where
         (both (instead "alike: the first trust is no higher" (leb u s) (instead "alike: the first trust is no lower" (leb s u) (eqb s u)))
         (asked "alike: alike contents" (alikeBy n (contentOf c shape i) (contentOf c shape j)))))))
 
-    -- "A code register of bound B fits a code content of bound at most B; others fit when alike."
+    -- "A code register of bound B fits a code content of bound at most B; others fit when alike." Where "contents of contents" is weakened, these
+    -- are not looked at.
     unfoldable pub fitsBy : Known → ℕ → Bool
     fitsBy N.Unknown i = false
     fitsBy N.Plain i = isPlain c shape i
     fitsBy (N.Code b) i = both (isCode c shape i) (asked "fits: bound at most B" (reaches b (boundOf c shape i)))
-    fitsBy (N.CellOf j) i = asked "fits: others when alike" (alikeBy (suc j) j i)
+    fitsBy (N.CellOf j) i = asked "fits: others when alike" (alikeBy (instead "alike: contents of contents" 2 (suc j)) j i)
 
     -- w's shape, "a cell with used effect above C"; where this place is weakened, whatever its effect is
     abbrev pub cellBy : String → State → ℕ → Known
