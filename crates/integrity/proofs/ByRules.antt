@@ -26,7 +26,7 @@ use Rattle.typing.specs.Rules.{Typed, passes, stuck, breaks, fresh, holds, lowS
 use Rattle.typing.specs.Rules as R
 use Rattle.typing.specs.Verdict.{verdict}
 use Rattle.machine.specs.Events.{noBlock}
-use Rattle.integrity.specs.Weakened.{alikeBy, fitsBy, declaredBy, stepBy, walkBy, every, acceptedBy}
+use Rattle.integrity.specs.Weakened.{alikeBy, fitsBy, declaredBy, stepBy, walkBy, every, acceptedBy, SameRules}
 use Rattle.integrity.proofs.Booleans.{both-true}
 use Rattle.integrity.proofs.Invariant.{passesAll}
 use Rattle.integrity.proofs.Bridge.{accepted}

@@ -2,6 +2,7 @@
 -- stands there where this one place is weakened. Where none is, these are the rules: proofs/ByRules.antt.
 --     instead, asked, raised     the marks
 --     acceptedBy                 acceptance by the rules, weakened at a place
+--     SameRules                  with no place weakened they are the rules
 --     Needed                     a book and events that break a sentence: the theorem would be false of the weakened rules
 -- Nothing else is built on these definitions. Assumes nothing.
 use Prim.Native.Nat.{ℕ, zero, suc, _-_}
@@ -25,9 +26,9 @@ use Rattle.book.specs.Refusals.{unreadable}
 use Rattle.typing.specs.declared.Known.{Known}
 use Rattle.typing.specs.declared.Known.the-variants as N
 use Rattle.typing.specs.declared.State.{State}
-use Rattle.typing.specs.declared.Verdict.the-variants.{Refused}
+use Rattle.typing.specs.declared.Verdict.the-variants.{Accepted, Refused}
 use Rattle.typing.specs.Shapes.{View, viewOf, isPlain, isCode, isCell, boundOf, contentOf, trustOf, highTrust, knownOf, knownValue}
-use Rattle.typing.specs.Rules.{Typed, passes, stuck, breaks, need, free, onCell, onCode, register, gives, givesLow, fresh, used, isLow, known, lowered, addable, lowStep, highStep}
+use Rattle.typing.specs.Rules.{Typed, passes, stuck, breaks, need, free, onCell, onCode, register, gives, givesLow, fresh, used, isLow, known, lowered, addable, lowStep, highStep, step}
 use Rattle.typing.specs.Verdict.{verdict}
 use Rattle.machine.specs.declared.Event.{Event}
 use Rattle.machine.specs.Histories.{lists}
@@ -216,6 +217,12 @@ acceptedBy weakened K =
     let B = viewOf K in
     both (every (declaredBy weakened B) (K .cells))
     (every (λ (b : Block). walkBy weakened B (b .steps) (passes (freshBy weakened B (b .bound)))) (K .blocks))
+
+-- The rules with no place weakened are the rules: a step is typed alike, and what the verdict accepts, they accept. proofs/ByRules.antt proves it.
+pub record SameRules : Type 0 where
+  pub step-alike : (B : View) (t : State) (p : Step) → stepBy "" B t p ≡ step B t p
+  pub book-accepted : (bytes : List ℕ) (shapes cells blocks steps : ℕ) → verdict bytes ≡ Accepted shapes cells blocks steps
+      → acceptedBy "" (parse bytes) ≡ true
 
 -- A readable book that the rules accept where this place is weakened and refuse where none is, as the verdict does; and events after which a
 -- sentence is broken.
