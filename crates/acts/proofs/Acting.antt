@@ -106,15 +106,6 @@ module _ {X : Type 0} (x : X) (f : ℕ → X) (n k : ℕ) where
   unfolding onCode
   is-code e = simp (value-code k n e)
 
--- the number, whatever the kind
-pub number-is : (k n : ℕ) → numberOf (valueOf k n) ≡ n
-number-is k n = go (kind-is k)
-  where
-    go : Kind k → numberOf (valueOf k n) ≡ n
-    go (plain e) = rw (value-plain k n e) refl
-    go (cell e) = rw (value-cell k n e) refl
-    go (code e) = rw (value-code k n e) refl
-
 -- the kind, as the tables show it
 pub kind-low : (k n : ℕ) → k < 2 → k ≡ kindOf (valueOf k n)
 kind-low k n h = go (kind-is k)

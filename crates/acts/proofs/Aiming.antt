@@ -18,7 +18,7 @@ use Rattle.acts.specs.declared.Stored.{Stored}
 use Rattle.acts.specs.declared.Effect.{Effect}
 use Rattle.acts.specs.Views.{storedOf, actor, targetBy, targetIn, reachedBy, reachedIn, clamped, answerOf}
 use Rattle.acts.specs.Outside.{aimedAt}
-use Rattle.acts.proofs.Acting.{number-is}
+use Rattle.machine.proofs.Named.{number-is}
 
 pub clamp-in : (k : ℕ) → k < 64 → (k ≡ clamped k) × (k < 64)
 clamp-in k h = (simp (lt-ltb _ _ h), h)

@@ -30,7 +30,8 @@ use Rattle.acts.specs.declared.Near.{Near}
 use Rattle.acts.specs.declared.Effect.{Effect}
 use Rattle.acts.specs.declared.Effect.the-variants.{Blocked, Give, Lower}
 use Rattle.acts.specs.Views.{valueIn, storedOf, contentOf, cellOf, actor, registerIn, nearby, effectOf, jobAfter, turnTaken, kept, settled, numberIn, targetBy, sortOf, waits, acts, Does, Makes, Takes, giveSort, lowerSort, storeSort, createSort, launchSort}
-use Rattle.acts.proofs.Acting.{write-closed, same-some, same-none, not-plain, is-plain, not-cell, is-cell, number-is}
+use Rattle.machine.proofs.Named.{number-is}
+use Rattle.acts.proofs.Acting.{write-closed, same-some, same-none, not-plain, is-plain, not-cell, is-cell}
 
 -- what the code hands back for a step p, by what its turn is
 module _ {s : State Label} {p : Step} {l h : Label} {rs : List Stored} where

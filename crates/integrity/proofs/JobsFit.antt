@@ -7,7 +7,7 @@ use Rattle.book.proofs.Parsed.{sound}
 use Rattle.machine.specs.Histories.{lists}
 use Rattle.machine.specs.Events.{tableSize, launchLabel}
 use Rattle.machine.specs.Records.{jobRecord}
-use Rattle.machine.proofs.Named.{JobNamed, state-after-named, job-few}
+use Rattle.machine.proofs.Named.{Any, JobNamed, state-after-named, job-few}
 use Rattle.events.specs.Bytes.{eventsIn}
 use Rattle.interpreter.specs.Run.{finalState}
 use Rattle.integrity.specs.Tables.{JobFits, JobsFit}
@@ -18,6 +18,6 @@ jobs-fit book e list =
     let s = state-after-named lists (parse book) tableSize ok (launchLabel (parse book)) (eventsIn list) in
     map-from jobRecord (JobFits (parse book)) (finalState book list .jobs)
     (λ j m.
-    let n = all-in (JobNamed (parse book)) (finalState book list .jobs) j (s .jobs) m in
+    let n = all-in (JobNamed Any (parse book)) (finalState book list .jobs) j (s .jobs) m in
     let f = job-few (parse book) ok j n in
     record { block = n .block; position = n .position; block-small = f .block; position-small = f .position })

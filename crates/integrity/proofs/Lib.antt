@@ -18,6 +18,7 @@ pub mod Integrity
 pub mod Packed
 pub mod Tables
 pub mod JobsFit
+pub mod NumbersFit
 pub mod Laws
 pub mod ByRules
 pub mod ByMachine

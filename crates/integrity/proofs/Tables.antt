@@ -20,7 +20,7 @@ use Rattle.typing.specs.Verdict.{verdict}
 use Rattle.machine.specs.Histories.{lists}
 use Rattle.machine.specs.Events.{tableSize, launchLabel}
 use Rattle.machine.specs.Records.{CellRecord, JobRecord, valueRecord, cellRecord, jobRecord, cellRecords, jobRecords}
-use Rattle.machine.proofs.Named.{JobNamed, state-after-named}
+use Rattle.machine.proofs.Named.{Any, JobNamed, state-after-named}
 use Rattle.events.specs.Bytes.{eventsIn}
 use Rattle.tables.specs.Bytes.{cellBytes, jobBytes, cellTable, jobTable}
 use Rattle.interpreter.specs.Run.{unrunnable, finalState, ranOf}
@@ -77,7 +77,7 @@ module _ (book : List ℕ) (shapes cells blocks steps : ℕ) (e : verdict book �
       map-from jobRecord (λ r. length (jobBytes r) ≡ 52) (finalState book list .jobs)
       (λ j m.
       job-long (jobRecord j)
-      (length-map (j .registers) valueRecord ∙ all-in (JobNamed (parse book)) (finalState book list .jobs) j (s .jobs) m .eight))
+      (length-map (j .registers) valueRecord ∙ all-in (JobNamed Any (parse book)) (finalState book list .jobs) j (s .jobs) m .eight))
 
   by-refusal : (r : Refusal) (cs js room : List ℕ) → TablesKept (parse book .c .0) (ranOf r book list cs js room)
   unfolding ranOf

@@ -1,6 +1,6 @@
 -- What the tables of a run say, demand 3: of every accepted book, every event list and whatever the lent memory held. proofs/Tables.antt
--- proves it. 01, "What demand 3 speaks of". And that a job's block and position fit their bytes: proofs/JobsFit.antt. All names here are of
--- specs/, of this crate or of those below it. Assumes nothing.
+-- proves it. 01, "What demand 3 speaks of". And that a job's block and position, and a value's number, fit their
+-- bytes: proofs/JobsFit.antt, proofs/NumbersFit.antt. All names here are of specs/, of this crate or of those below it. Assumes nothing.
 use mathlib.Core.Path.{_≡_}
 use mathlib.Core.List.{List}
 use Prim.Native.Nat.{ℕ, _+_, _*_, _<_, _≤_}
@@ -11,8 +11,10 @@ use Rattle.book.specs.Book.{Book, parse}
 use Rattle.book.specs.Refusals.{unreadable}
 use Rattle.typing.specs.declared.Verdict.the-variants.{Accepted}
 use Rattle.typing.specs.Verdict.{verdict}
+use Rattle.machine.specs.Histories.{History}
+use Rattle.machine.specs.States.{State}
 use Rattle.machine.specs.Events.{blockOf}
-use Rattle.machine.specs.Records.{JobRecord, jobRecords}
+use Rattle.machine.specs.Records.{ValueRecord, CellRecord, JobRecord, cellRecords, jobRecords}
 use Rattle.interpreter.specs.Run.{Run, ran, finalState}
 use Rattle.integrity.specs.Integrity.{_isIn_}
 
@@ -57,3 +59,15 @@ pub record JobFits (K : Book) (r : JobRecord) : Type 0 where
 -- "running 1 to 6": of every run of a book that can be read, accepted or not.
 abbrev pub JobsFit : Type 0
 JobsFit = (book : List ℕ) → unreadable book ≡ Passed → (list : List ℕ) (r : JobRecord) → r isIn jobRecords (finalState book list) → JobFits (parse book) r
+
+-- a list whose members are bytes, as every book and every event list is
+abbrev pub Bytes : List ℕ → Type 0
+Bytes l = (i : ℕ) → byteAt l i < 256
+
+-- "A value is plain (32 bits), a cell or a block": so the four bytes of a number in the tables lose nothing.
+pub record NumbersFitIn (K : Book) (s : State History) : Type 0 where
+  pub cells : (r : CellRecord) → r isIn cellRecords K s → r .value .number < 4294967296
+  pub registers : (r : JobRecord) → r isIn jobRecords s → (v : ValueRecord) → v isIn r .registers → v .number < 4294967296
+
+abbrev pub NumbersFit : Type 0
+NumbersFit = (book : List ℕ) → Bytes book → unreadable book ≡ Passed → (list : List ℕ) → Bytes list → NumbersFitIn (parse book) (finalState book list)

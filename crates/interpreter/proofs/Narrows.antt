@@ -15,7 +15,7 @@ use Rattle.book.proofs.Parsed.{sound}
 use Rattle.machine.specs.Histories.{sources}
 use Rattle.machine.specs.States as States
 use Rattle.machine.specs.Events.{tableSize, launchLabel, stateAfter}
-use Rattle.machine.proofs.Named.{JobNamed, state-after-named, job-few}
+use Rattle.machine.proofs.Named.{Any, JobNamed, state-after-named, job-few}
 use Rattle.events.specs.Bytes.{eventsIn}
 use Rattle.acts.specs.declared.Cell.{Cell}
 use Rattle.acts.specs.declared.Job.{Job}
@@ -30,11 +30,11 @@ pub played-narrow : (b list before after : List ℕ) (cells : List Cell) (n : �
 played-narrow b list before after cells n jobs m e w =
     let ok = sound b e in
     let js = stateAfter sources tableSize (parse b) (opening b) (eventsIn list) .jobs in
-    let q : All (JobNamed (parse b)) js = state-after-named sources (parse b) tableSize ok (launchLabel (parse b)) (eventsIn list) .jobs in
+    let q : All (JobNamed Any (parse b)) js = state-after-named sources (parse b) tableSize ok (launchLabel (parse b)) (eventsIn list) .jobs in
     let h = w .holds in
     record {
       each = λ i d r.
           let j = ap (λ (l : List (States.Job Label)). getElem? l i) (sym (h .jobs-are)) ∙ front-get jobOf jobs m i d r (omega (arith, h .jobs-long, h .jobs-fit)) in
-          let f = job-few (parse b) ok (jobOf (getD jobs i d)) (all-at (JobNamed (parse b)) js i (jobOf (getD jobs i d)) q j) in
+          let f = job-few (parse b) ok (jobOf (getD jobs i d)) (all-at (JobNamed Any (parse b)) js i (jobOf (getD jobs i d)) q j) in
           record { block = omega (arith, f .block); position = omega (arith, f .position) };
     }

@@ -20,7 +20,7 @@ use Rattle.acts.specs.declared.Cell.{Cell}
 use Rattle.acts.specs.declared.Job.{Job}
 use Rattle.acts.specs.declared.Stored.{Stored}
 use Rattle.acts.specs.Views.{storedOf, contentOf, cellOf, jobOf}
-use Rattle.acts.proofs.Acting.{number-is}
+use Rattle.machine.proofs.Named.{number-is}
 use Rattle.tables.specs.Bytes.{storedRecord, cellRecordIn, jobRecordOf, cellTable, jobTable, savedCells, savedJobs}
 
 -- a map by way of another
