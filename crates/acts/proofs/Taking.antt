@@ -29,7 +29,8 @@ use Rattle.acts.specs.declared.Stored.{Stored}
 use Rattle.acts.specs.declared.Near.{Near}
 use Rattle.acts.specs.declared.Effect.{Effect}
 use Rattle.acts.specs.declared.Effect.the-variants.{Blocked, Give, Lower}
-use Rattle.acts.specs.Views.{valueIn, storedOf, contentOf, cellOf, actor, registerIn, nearby, effectOf, jobAfter, turnTaken, kept, settled, numberIn, targetBy, sortOf, waits, acts, Does, Makes, Takes, giveSort, lowerSort, storeSort, createSort, launchSort}
+use Rattle.acts.specs.Views.{valueIn, storedOf, contentOf, cellOf, actor, registerIn, nearby, effectOf, jobAfter, turnTaken, kept, settled, numberIn, targetBy}
+use Rattle.acts.specs.Views.{sortOf, waits, acts, Does, Makes, Takes, giveSort, lowerSort, storeSort, createSort, launchSort}
 use Rattle.machine.proofs.Named.{number-is}
 use Rattle.acts.proofs.Acting.{write-closed, same-some, same-none, not-plain, is-plain, not-cell, is-cell}
 

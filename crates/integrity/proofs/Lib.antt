@@ -23,4 +23,5 @@ pub mod Laws
 pub mod ByRules
 pub mod ByMachine
 pub mod Tested
+pub mod Books
 pub mod EachNeeded

@@ -26,7 +26,8 @@ use Rattle.machine.specs.Histories.{History, append, lists}
 use Rattle.machine.specs.States.{Traced, Job, State}
 use Rattle.machine.specs.Acts.{Effect, blocked, keep, store, launch, unless, isFree, execLabel, acted, freshJob, making, starting}
 use Rattle.machine.specs.Steps.{Turn, register, turn, stay, moved, gets, through, turnOf}
-use Rattle.machine.specs.Events.{Outcome, tableSize, topLabel, launchLabel, finished, noSuch, blockOf, trustOf, isOutsider, isLabel, isBlock, isCell, isValue, unchanged, landed, turnLanded, ifSuch, brought, freshState}
+use Rattle.machine.specs.Events.{Outcome, tableSize, topLabel, launchLabel, finished, noSuch, blockOf, trustOf, isOutsider, isLabel, isBlock, isCell, isValue, unchanged}
+use Rattle.machine.specs.Events.{landed, turnLanded, ifSuch, brought, freshState}
 use Rattle.integrity.specs.Integrity.{Sentences}
 use Rattle.integrity.specs.Weakened.{instead, asked, raised}
 

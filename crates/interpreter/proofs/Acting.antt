@@ -32,7 +32,8 @@ use Rattle.interpreter.proofs.Starts.{placed-fresh}
 use Rattle.interpreter.proofs.Playing.{Playing, allowed-at, answering, blocks-count, further, known}
 
 -- the loop's variables, the offset p past the event e, the cell k that it reaches and its entry q of the table
-pub record Acting (b : List ℕ) (c : Label) (shapes offsets starts list room-cells room-jobs before now : List ℕ) (cells : List Cell) (n : ℕ) (jobs : List Job) (m o at p : ℕ) (e : Event) (f : Bool) (k q : ℕ) : Type 0 where
+pub record Acting (b : List ℕ) (c : Label) (shapes offsets starts list room-cells room-jobs before now : List ℕ) (cells : List Cell) (n : ℕ)
+    (jobs : List Job) (m o at p : ℕ) (e : Event) (f : Bool) (k q : ℕ) : Type 0 where
   pub w : Playing b c shapes offsets starts list room-cells room-jobs before now cells n jobs m o at
   pub h : o < length list
   pub ep : p ≡ next list o
@@ -68,7 +69,9 @@ pub record SomeAct : Type 0 where
   pub q : ℕ
   pub known : Acting b c shapes offsets starts list room-cells room-jobs before now cells n jobs m o at p e f k q
 
-module _ {b : List ℕ} {c : Label} {shapes offsets starts list room-cells room-jobs before now : List ℕ} {cells : List Cell} {n : ℕ} {jobs : List Job} {m o at p : ℕ} {e : Event} {f : Bool} {k q : ℕ} (act : Acting b c shapes offsets starts list room-cells room-jobs before now cells n jobs m o at p e f k q) where
+module _ {b : List ℕ} {c : Label} {shapes offsets starts list room-cells room-jobs before now : List ℕ} {cells : List Cell} {n : ℕ} {jobs : List Job}
+    {m o at p : ℕ} {e : Event} {f : Bool} {k q : ℕ}
+    (act : Acting b c shapes offsets starts list room-cells room-jobs before now cells n jobs m o at p e f k q) where
   abbrev state : State Label
   state = act .w .going .state
 

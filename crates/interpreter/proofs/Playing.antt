@@ -97,7 +97,9 @@ pub blocks-count : (b starts : List ℕ) → starts ≡ map startAt (blocksOf b)
 unfolding parse
 blocks-count b starts e = ap length e ∙ length-map (blocksOf b) startAt ∙ sym (length-map (blocksOf b) (blockAt b))
 
-module _ {b : List ℕ} {c : Label} {shapes offsets starts list room-cells room-jobs before now : List ℕ} {cells : List Cell} {n : ℕ} {jobs : List Job} {m o at : ℕ} (w : Playing b c shapes offsets starts list room-cells room-jobs before now cells n jobs m o at) where
+module _ {b : List ℕ} {c : Label} {shapes offsets starts list room-cells room-jobs before now : List ℕ} {cells : List Cell} {n : ℕ} {jobs : List Job}
+    {m o at : ℕ}
+    (w : Playing b c shapes offsets starts list room-cells room-jobs before now cells n jobs m o at) where
   -- every job of the array is where the book says
   pub playing-small : (i : ℕ) (d : Job) → i < m → getD jobs i d .position < 65535
   playing-small i d h =

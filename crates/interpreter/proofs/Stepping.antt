@@ -75,7 +75,8 @@ blocks n ks (Launch y l s) (acts e) a k = absurd (elsewhere n ks 5 e a k)
 
 -- a step that stands, its cell looked up: the loop's variables, the job's number i, where the step stands, z, and ends, u, the register t that names
 -- the cell, and its entry q of the table
-pub record Stepping (b : List ℕ) (c : Label) (shapes offsets starts list room-cells room-jobs before now : List ℕ) (cells : List Cell) (n : ℕ) (jobs : List Job) (m o at i : ℕ) (d : Job) (z u : ℕ) (t : Stored) (q : ℕ) : Type 0 where
+pub record Stepping (b : List ℕ) (c : Label) (shapes offsets starts list room-cells room-jobs before now : List ℕ) (cells : List Cell) (n : ℕ)
+    (jobs : List Job) (m o at i : ℕ) (d : Job) (z u : ℕ) (t : Stored) (q : ℕ) : Type 0 where
   pub w : Playing b c shapes offsets starts list room-cells room-jobs before now cells n jobs m o at
   pub h : o < length list
   pub here : getD list o 0 ≡ 80
@@ -113,7 +114,9 @@ pub record SomeStep : Type 0 where
   pub q : ℕ
   pub known : Stepping b c shapes offsets starts list room-cells room-jobs before now cells n jobs m o at i d z u t q
 
-module _ {b : List ℕ} {c : Label} {shapes offsets starts list room-cells room-jobs before now : List ℕ} {cells : List Cell} {n : ℕ} {jobs : List Job} {m o at i : ℕ} {d : Job} {z u : ℕ} {t : Stored} {q : ℕ} (step : Stepping b c shapes offsets starts list room-cells room-jobs before now cells n jobs m o at i d z u t q) where
+module _ {b : List ℕ} {c : Label} {shapes offsets starts list room-cells room-jobs before now : List ℕ} {cells : List Cell} {n : ℕ} {jobs : List Job}
+    {m o at i : ℕ} {d : Job} {z u : ℕ} {t : Stored} {q : ℕ}
+    (step : Stepping b c shapes offsets starts list room-cells room-jobs before now cells n jobs m o at i d z u t q) where
   abbrev state : State Label
   state = step .w .going .state
 

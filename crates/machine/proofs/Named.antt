@@ -212,7 +212,12 @@ module _ (Q : ℕ → Type 0) (A : Histories) (K : Book) (size : ℕ) (N : Numbe
 
     gets-named : (r : ℕ) (v : Value) (h : H) → Named Q blocks v → JobNamed Q K (gets A j r v h)
     gets-named r v h i =
-        record { block = n .block; position = omega arith; registers = all-set (TracedNamed Q K) (j .registers) r _ (n .registers) (record { value = i }); eight = length-set (j .registers) r _ ∙ n .eight }
+        record {
+          block = n .block;
+          position = omega arith;
+          registers = all-set (TracedNamed Q K) (j .registers) r _ (n .registers) (record { value = i });
+          eight = length-set (j .registers) r _ ∙ n .eight;
+        }
 
     moved-named : JobNamed Q K (moved A j)
     moved-named = record { block = n .block; position = omega arith; registers = n .registers; eight = n .eight }

@@ -29,13 +29,15 @@ pass-steps-requires-2 c κs =
 add-n : tie.Need-add-n Inv-loop μ-loop
 add-n c =
     let l = c .before .before .before .before in
-    let f = turn-few _ _ _ (l .before .loop .inv) _ (c .before .before .before .is-cut .ensures) (l .loop-test .taken) (c .before .before .if2 .left) _ (c .before .next-event .ensures) _ _ (c .pass-steps2 .ensures) in
+    let f = turn-few _ _ _ (l .before .loop .inv) _ (c .before .before .before .is-cut .ensures) (l .loop-test .taken)
+    (c .before .before .if2 .left) _ (c .before .next-event .ensures) _ _ (c .pass-steps2 .ensures) in
     search needs
 
 add-n-2 : tie.Need-add-n-2 Inv-loop μ-loop
 add-n-2 c =
     let l = c .before .before .before .before .before in
-    let f = turn-few _ _ _ (l .before .loop .inv) _ (c .before .before .before .before .is-cut .ensures) (l .loop-test .taken) (c .before .before .before .if2 .left) _ (c .before .before .next-event .ensures) _ _ (c .before .pass-steps2 .ensures) in
+    let f = turn-few _ _ _ (l .before .loop .inv) _ (c .before .before .before .before .is-cut .ensures) (l .loop-test .taken)
+    (c .before .before .before .if2 .left) _ (c .before .before .next-event .ensures) _ _ (c .before .pass-steps2 .ensures) in
     search needs
 
 loop-less : tie.Need-loop-less Inv-loop μ-loop

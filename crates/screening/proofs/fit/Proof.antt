@@ -43,7 +43,8 @@ returns-5 c =
     let p2 = p3 .before .before in
     let p1 = p2 .before .before in
     let begun = p1 .before in
-    fits _ (λ i. begun .shared-slice-known .given i .fits) _ _ _ _ _ _ _ _ (begun .before .pre .1) (begun .before .pre .0) (p1 .if1 .left) (p2 .before .byte .ensures) (p3 .before .byte2 .ensures) (c .before .byte3 .ensures) (p2 .if2 .left) (p3 .if3 .left) (c .if4 .left)
+    fits _ (λ i. begun .shared-slice-known .given i .fits) _ _ _ _ _ _ _ _ (begun .before .pre .1) (begun .before .pre .0) (p1 .if1 .left)
+    (p2 .before .byte .ensures) (p3 .before .byte2 .ensures) (c .before .byte3 .ensures) (p2 .if2 .left) (p3 .if3 .left) (c .if4 .left)
 
 pub fit-spec : {M : Type 1} → statement M
 fit-spec =
