@@ -2,6 +2,7 @@
 --     not-plain, .., kinds                        a value by its kind
 --     opens                                       whether the cell can be written
 --     writes, relabels, makes, starts, execs      one set for each act
+--     clamps, answer-is                           an entry of a table; the answer to an effect
 -- Assumes nothing.
 use mathlib.Core.Path.{_≡_, refl, sym, _∙_}
 use mathlib.Core.Bool.{Bool, true, false}
@@ -21,13 +22,14 @@ use Rattle.machine.specs.Control.{given, onPlain, onCell, onCode}
 use Rattle.machine.specs.Histories.{sources}
 use Rattle.machine.specs.States.{Traced, Job, State}
 use Rattle.machine.specs.Acts.{Effect, blocked, store, create, launch, unless, isFree, acted, freshJob, execLabel, writing, relabelling, making, starting, executing}
-use Rattle.machine.specs.Records.{kindOf, numberOf}
+use Rattle.machine.specs.Records.{kindOf}
 use Rattle.machine.specs.Events.{tableSize}
 use Rattle.acts.specs.declared.Stored.{Stored}
 use Rattle.acts.specs.declared.Cell.{Cell}
 use Rattle.acts.specs.declared.Near.{Near}
+use Rattle.acts.specs.declared.Effect as Told
 use Rattle.acts.specs.declared.Effect.the-variants.{Blocked, Store, Create, Launch}
-use Rattle.acts.specs.Views.{storedOf, contentOf, cellWith, cellOf, nearby, effectOf, jobAfter, kept, sortOf, Only, waits, acts, Does, Makes, storeSort, launchSort}
+use Rattle.acts.specs.Views.{storedOf, contentOf, cellWith, cellOf, nearby, effectOf, jobAfter, kept, sortOf, waits, acts, Does, Makes, storeSort, launchSort, clamped, answerOf}
 
 pub same-some : {A : Type 0} (x : A) (n k : ℕ) → k < n → getElem? (replicate n x) k ≡ some x
 same-some x zero k h = absurd (omega arith)
@@ -274,3 +276,15 @@ pub ruleset makes = (make-full, make-done)
 pub ruleset starts = (start-full, start-done)
 
 pub ruleset execs = (exec-none, exec-other, exec-full, exec-done)
+
+pub clamp-in : (k : ℕ) → k < 64 → (k ≡ clamped k) × (k < 64)
+clamp-in k h = (simp (lt-ltb _ _ h), h)
+
+pub clamp-out : (k : ℕ) → 64 ≤ k → (_≡_ {A = ℕ} 0 (clamped k)) × (0 < 64)
+clamp-out k h = (simp (le-ltb _ _ h), omega arith)
+
+pub ruleset clamps = (clamp-in, clamp-out)
+
+-- a is what the code found, and y the effect of the same sort
+pub answer-is : (x y : Told.Effect) (a : ℕ) → x ≡ y → a ≡ answerOf y → a ≡ answerOf x
+answer-is x y a d q = rw d q

@@ -7,11 +7,10 @@
 --     sortOf, Only                         the sort of an effect; one that is blocked or of one sort
 --     answerOf                             the answer to an event of this effect
 --     settled                              a turn, where the job waits if it is blocked
---     Does, Makes, Takes                   contracts: an act on a cell or of start; new; a step
---     targetBy, reachedBy, clamped         the register that names the cell which a step reaches; that cell; an entry of a table
---     Gives, Changes, Launches             kinds of steps, by what they do
+--     Does, Makes                          contracts: an act on a cell or of start; new
+--     clamped                              an entry of a table
 -- Assumes nothing.
-use Prim.Native.Nat.{ℕ, suc, _<_, _≤_}
+use Prim.Native.Nat.{ℕ, suc}
 use mathlib.Core.Path.{_≡_}
 use mathlib.Core.List.{List, map}
 use lib.Dec.{ltb}
@@ -20,8 +19,6 @@ use Rattle.labels.specs.declared.Label.{Label}
 use Rattle.labels.specs.Labels.{label}
 use Rattle.book.specs.declared.Value.{Value}
 use Rattle.book.specs.declared.Value.the-variants.{CellName}
-use Rattle.book.specs.declared.Step.{Step}
-use Rattle.book.specs.declared.Step.the-variants as Step
 use Rattle.book.specs.Control.{if_then_else_}
 use Rattle.book.specs.Book.{valueOf}
 use Rattle.machine.specs.Histories.{sources}
@@ -29,10 +26,9 @@ use Rattle.machine.specs.States.{Traced, State}
 use Rattle.machine.specs.States as States
 use Rattle.machine.specs.Acts.{blocked, keep, store, create, launch, zeroWith, freshJob}
 use Rattle.machine.specs.Acts as Acts
-use Rattle.machine.specs.Steps.{register, turn, moved, gets, turnOf}
+use Rattle.machine.specs.Steps.{turn, moved, gets}
 use Rattle.machine.specs.Steps as Steps
-use Rattle.machine.specs.Records.{numberOf}
-use Rattle.machine.specs.Events.{done, stopped, tableSize}
+use Rattle.machine.specs.Events.{done, stopped}
 use Rattle.acts.specs.declared.Stored.{Stored}
 use Rattle.acts.specs.declared.Cell.{Cell}
 use Rattle.acts.specs.declared.Job.{Job}
@@ -115,35 +111,6 @@ kept j g (launch i) = g
 abbrev pub settled : States.Job Label → Steps.Turn Label → Steps.Turn Label
 settled j t = record { job = kept j (t .job) (t .effect); effect = t .effect }
 
--- the number in register w
-abbrev pub numberIn : States.Job Label → ℕ → ℕ
-numberIn j w = numberOf (register sources j w .value)
-
--- the register that names the cell which a step reaches; a plain 0 where it reaches none
-unfoldable pub targetBy : Step → States.Job Label → Traced Label
-targetBy (Step.Put r n) j = zeroWith sources (j .history)
-targetBy (Step.Name r k) j = zeroWith sources (j .history)
-targetBy (Step.Code r b) j = zeroWith sources (j .history)
-targetBy (Step.Add r a b) j = zeroWith sources (j .history)
-targetBy (Step.New r i a) j = zeroWith sources (j .history)
-targetBy (Step.Read r w) j = register sources j w
-targetBy (Step.Write w a) j = register sources j w
-targetBy (Step.Relabel w o) j = register sources j w
-targetBy (Step.Lower q) j = zeroWith sources (j .history)
-targetBy (Step.Start b) j = zeroWith sources (j .history)
-targetBy (Step.Exec w) j = register sources j w
-
--- the cell that a step reaches
-abbrev pub reachedBy : Step → States.Job Label → ℕ
-reachedBy p j = numberOf (targetBy p j .value)
-
--- neither depends on the job's label, block and position
-abbrev pub targetIn : Step → Label → List Stored → Traced Label
-targetIn p h rs = targetBy p (actor (label 0) h rs 0 0)
-
-abbrev pub reachedIn : Step → Label → List Stored → ℕ
-reachedIn p h rs = numberOf (targetIn p h rs .value)
-
 -- a number in a table of 64
 abbrev pub clamped : ℕ → ℕ
 clamped k = if ltb k 64 then k else 0
@@ -186,24 +153,3 @@ pub record Does (n : ℕ) (s : State Label) (k : ℕ) (e : Acts.Effect Label) (x
 pub record Makes (s : State Label) (r : ℕ) (e : Acts.Effect Label) (x : Effect) : Type 0 where
   pub does : (j : States.Job Label) → turnTaken s j 0 x ≡ settled j (turn sources (gets sources j r (CellName (length (s .cells))) (j .history)) e)
   pub only : Only createSort x
-
--- x is what step p does in the state s, at the label l, with the history h and these registers, whatever the job's block b and position i; it is
--- blocked or of sort n
-pub record Takes (n : ℕ) (s : State Label) (p : Step) (l h : Label) (rs : List Stored) (x : Effect) : Type 0 where
-  pub takes : (b i : ℕ)
-      → turnTaken s (actor l h rs b i) (reachedBy p (actor l h rs b i)) x
-      ≡ settled (actor l h rs b i) (turnOf sources tableSize s (actor l h rs b i) p)
-  pub only : Only n x
-
--- kinds of steps: put, name, code, add and read; write and relabel; start and exec
-pub record Gives (k : ℕ) : Type 0 where
-  pub from : 64 ≤ k
-  pub to : k < 70
-  pub no-new : k ≡ 68 → ⊥
-
-pub record Changes (k : ℕ) : Type 0 where
-  pub from : 70 ≤ k
-  pub to : k < 72
-
-pub record Launches (k : ℕ) : Type 0 where
-  pub from : 73 ≤ k

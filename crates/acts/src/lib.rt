@@ -1,21 +1,21 @@
 // One act of a run on what it reaches: what it looks at of the job that acts, and one cell, both by value.
 mod effects;
-mod outsiders;
-mod reaching;
 mod registers;
-mod turns;
 
 use labels::Label;
 ghost use mathlib.Core.Path.{_≡_};
 ghost use Rattle.machine.specs.Histories.{sources};
 ghost use Rattle.machine.specs.Acts.{freshJob};
-ghost use Rattle.acts.specs.Views.{jobOf};
+ghost use Prim.Native.Nat.{_<_};
+ghost use Rattle.acts.specs.Views.{jobOf, clamped};
 pub use effects::answer_of;
-pub use outsiders::act_outside;
-pub use outsiders::is_such;
-pub use reaching::aimed_at;
-pub use reaching::clamp;
-pub use reaching::target_of;
+pub use effects::exec_cell;
+pub use effects::is_open;
+pub use effects::make_cell;
+pub use effects::relabel_cell;
+pub use effects::start_job;
+pub use effects::write_cell;
+pub use registers::acted;
 pub use registers::content_of;
 pub use registers::gets;
 pub use registers::hold;
@@ -24,11 +24,7 @@ pub use registers::lowered;
 pub use registers::moved;
 pub use registers::names;
 pub use registers::register_of;
-pub use turns::change;
-pub use turns::create;
-pub use turns::give;
-pub use turns::launch;
-pub use turns::lower;
+pub use registers::zero_with;
 
 // A stored value: kind 0 plain, 1 a cell, any other a block, as the book reads kinds. Its source is the lowest label of its history.
 pub struct Stored {
@@ -95,4 +91,14 @@ pub enum Effect {
     Store(Cell),
     Create(u8, Cell),
     Launch(u32, Label, Label),
+}
+
+// A number in a table of 64.
+pub fn clamp(k: usize) -> usize
+    ensures { λ r. ⌜ (r ≡ clamped k) × (r < 64) ⌝ }
+{
+    if k < Job::TABLE_SIZE {
+        return k;
+    }
+    0
 }

@@ -1,6 +1,5 @@
 // The registers of a job, and a job whose step is done.
 use crate::Cell;
-use crate::Effect;
 use crate::Job;
 use crate::Stored;
 use labels::Label;
@@ -11,7 +10,6 @@ ghost use Rattle.machine.specs.Histories.{sources};
 ghost use Rattle.machine.specs.Acts.{acted, zeroWith};
 ghost use Rattle.machine.specs.Steps.{moved, gets};
 ghost use Rattle.machine.specs.Records.{kindOf};
-ghost use Rattle.acts.specs.declared.Effect.the-variants.{Give};
 ghost use Rattle.acts.specs.Views.{valueIn, storedOf, contentOf, cellWith, jobOf, registerIn, lowered};
 
 // What registers start as, and what one past the eighth holds.
@@ -59,20 +57,6 @@ pub fn content_of(cell: Cell) -> Stored
         kind: cell.kind,
         source: source,
     }
-}
-
-// A step gives register r this value, with the job's source h.
-pub fn given(r: u8, kind: u8, number: u32, h: Label) -> Effect
-    ensures { λ x. ⌜ x ≡ Give r (record { number = number; kind = kind; source = h }) ⌝ }
-{
-    Effect::Give(
-        r,
-        Stored {
-            number: number,
-            kind: kind,
-            source: h,
-        },
-    )
 }
 
 // The value after an act.

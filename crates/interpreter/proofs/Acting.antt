@@ -9,7 +9,6 @@ use Prim.Native.Nat.{ℕ, _+_, _<_, _≤_}
 use native.Mathlib.Omega.{arith}
 use lib.ListN.{length, getD, set}
 use Rattle.labels.specs.declared.Label.{Label}
-use Rattle.book.specs.Book.{parse}
 use Rattle.book.specs.Outline.{shapeIn}
 use Rattle.machine.specs.Histories.{sources}
 use Rattle.machine.specs.declared.Event.{Event}
@@ -22,9 +21,10 @@ use Rattle.acts.specs.declared.Stored.{Stored}
 use Rattle.acts.specs.declared.Effect.{Effect}
 use Rattle.acts.specs.declared.Effect.the-variants.{Blocked, Give, Lower, Store, Create, Launch}
 use Rattle.acts.specs.Views.{jobOf, nearby, effectOf, answerOf, clamped}
-use Rattle.acts.specs.Outside.{such, aimedAt, outside}
-use Rattle.acts.proofs.Nearby.{Allowed, store-inside, create-room, launch-room}
-use Rattle.interpreter.specs.Loop.{Holds, startIn}
+use Rattle.outsiders.specs.Outside.{such, aimedAt, outside}
+use Rattle.interpreter.proofs.Nearby.{Allowed, store-inside, create-room, launch-room}
+use Rattle.tables.specs.Opening.{startIn}
+use Rattle.interpreter.specs.Loop.{Holds}
 use Rattle.interpreter.proofs.Lands.{stateOf, afterwards, cells-in-use, jobs-in-use, in-table, act-done, act-fits}
 use Rattle.interpreter.proofs.Events.{act-here, act-some}
 use Rattle.interpreter.proofs.Holding.{holds-entry, holds-store, holds-create, holds-launch}

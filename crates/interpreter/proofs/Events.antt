@@ -20,7 +20,7 @@ use Rattle.machine.specs.declared.Event.the-variants.{StepOf, WriteBy, RelabelB
 use Rattle.machine.specs.Histories.{sources}
 use Rattle.machine.specs.States.{State}
 use Rattle.machine.specs.Events.{tableSize, noSuch, unchanged, landed, outcomeOf}
-use Rattle.acts.specs.Outside.{lowCellShape, suchValue, suchWrite, suchRelabel, suchNew, suchNumber, such, outside}
+use Rattle.outsiders.specs.Outside.{lowCellShape, suchValue, suchWrite, suchRelabel, suchNew, suchNumber, such, outside}
 use Rattle.events.specs.Bytes.{eventAt}
 
 -- no step

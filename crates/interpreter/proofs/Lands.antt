@@ -34,10 +34,11 @@ use Rattle.acts.specs.declared.Cell.{Cell}
 use Rattle.acts.specs.declared.Job.{Job}
 use Rattle.acts.specs.declared.Effect.{Effect}
 use Rattle.acts.specs.declared.Effect.the-variants.{Blocked, Give, Lower, Store, Create, Launch}
-use Rattle.acts.specs.Views.{cellOf, jobOf, nearby, effectOf, jobAfter, answerOf, turnTaken, reachedBy, reachedIn, clamped, Takes}
-use Rattle.acts.specs.Outside.{aimedAt, outside}
-use Rattle.acts.proofs.Nearby.{Reached, outside-nearby, Allowed, outside-allowed, step-lands, step-allowed}
-use Rattle.acts.proofs.Aiming.{reached-same}
+use Rattle.acts.specs.Views.{cellOf, jobOf, nearby, effectOf, jobAfter, answerOf, clamped}
+use Rattle.steps.specs.Turns.{reachedBy, reachedIn, Takes}
+use Rattle.outsiders.specs.Outside.{aimedAt, outside}
+use Rattle.interpreter.proofs.Nearby.{Reached, outside-nearby, Allowed, outside-allowed, step-lands, step-allowed}
+use Rattle.steps.proofs.Targets.{reached-same}
 use Rattle.interpreter.specs.Loop.{Placed, Holds}
 use Rattle.interpreter.proofs.Arrays.{front-get, front-long, left-some, left-none, left-more}
 

@@ -1,3 +1,4 @@
+pub mod Nearby
 pub mod Arrays
 pub mod Lands
 pub mod Events

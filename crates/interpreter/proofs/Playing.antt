@@ -3,7 +3,7 @@
 --     plays        the laws
 -- Assumes nothing.
 use mathlib.Core.Path.{_≡_, refl, sym, ap, _∙_}
-use mathlib.Core.Bool.{Bool, true, false}
+use mathlib.Core.Bool.{Bool, false}
 use mathlib.Core.List.{List, map}
 use Prim.Native.Nat.{ℕ, _+_, _*_, _-_, _<_, _≤_}
 use native.Mathlib.Omega.{arith}
@@ -13,12 +13,9 @@ use mir.Syntax.{w64}
 use lib.ListN.{length, take, getD, set, replicate, length-set, length-map}
 use Rattle.labels.specs.declared.Label.{Label}
 use Rattle.book.specs.declared.Refusal.the-variants.{Passed}
-use Rattle.book.specs.declared.Value.the-variants.{CellName}
-use Rattle.book.specs.declared.StepAt.the-variants.{StepThere}
 use Rattle.book.specs.Spans.{byteAt}
-use Rattle.book.specs.Stretch.{stepFound, stepEnd}
-use Rattle.book.specs.Book.{parse, blocksOf, blockAt, stepAt}
-use Rattle.book.specs.Refusals.{unreadable}
+use Rattle.book.specs.Stretch.{stepEnd}
+use Rattle.book.specs.Book.{parse, blocksOf, blockAt}
 use Rattle.book.specs.Outline.{shapeIn, startAt}
 use Rattle.book.proofs.Decoded as Decoded
 use Rattle.book.proofs.Readable.{readable}
@@ -26,9 +23,7 @@ use Rattle.machine.specs.Histories.{sources}
 use Rattle.machine.specs.declared.Event.{Event}
 use Rattle.machine.specs.declared.Event.the-variants.{StepOf}
 use Rattle.machine.specs.States.{State}
-use Rattle.machine.specs.States as States
 use Rattle.machine.specs.Acts.{freshJob}
-use Rattle.machine.specs.Steps.{moved, gets}
 use Rattle.machine.specs.Events.{tableSize, Outcome, outcomeOf}
 use Rattle.events.specs.Bytes.{next, eventAt}
 use Rattle.events.proofs.Scans.{next-step}
@@ -36,22 +31,18 @@ use Rattle.events.proofs.Walks.{walk, passed-whole, passed-short}
 use Rattle.acts.specs.declared.Cell.{Cell}
 use Rattle.acts.specs.declared.Job.{Job}
 use Rattle.acts.specs.declared.Effect.{Effect}
-use Rattle.acts.specs.declared.Effect.the-variants.{Blocked, Give, Lower, Store, Create, Launch}
-use Rattle.acts.specs.declared.Stored.{Stored}
-use Rattle.acts.specs.Views.{valueIn, storedOf, jobOf, nearby, effectOf, jobAfter, answerOf, lowered, targetIn, reachedIn, clamped, Takes, Gives, Changes, Launches}
-use Rattle.acts.specs.Outside.{such, aimedAt, outside}
-use Rattle.acts.proofs.Aiming.{target-number}
-use Rattle.acts.proofs.Nearby.{Allowed, store-inside, create-room, launch-room}
+use Rattle.acts.specs.Views.{jobOf, effectOf}
+use Rattle.outsiders.specs.Outside.{such}
+use Rattle.interpreter.proofs.Nearby.{Allowed}
 use Rattle.tables.specs.Bytes.{savedCells, savedJobs}
 use Rattle.tables.specs.Asked.{NarrowJobs}
-use Rattle.interpreter.specs.Loop.{Placed, Holds, startIn, openedCells, Ready}
+use Rattle.tables.specs.Opening.{startIn, openedCells}
+use Rattle.interpreter.specs.Loop.{Holds, Ready}
 use Rattle.interpreter.specs.Run.{Run, ranOf}
-use Rattle.interpreter.proofs.Lands.{stateOf, withJob, cells-in-use, jobs-in-use, in-table, step-past, step-none, step-done, step-fits, step-placed, act-done, act-fits}
-use Rattle.interpreter.proofs.Events.{step-here, act-here, act-none, act-some}
-use Rattle.interpreter.proofs.Holding.{holds-job, holds-store, holds-create, holds-launch}
+use Rattle.interpreter.proofs.Lands.{cells-in-use, step-past, step-none}
+use Rattle.interpreter.proofs.Events.{step-here, act-here, act-none}
 use Rattle.interpreter.proofs.Going.{Going, going-start, answer-fits, going-turn, going-end}
 use Rattle.interpreter.proofs.Narrows.{played-narrow}
-use Rattle.interpreter.proofs.Starts.{placed-fresh}
 use Rattle.interpreter.proofs.Opened.{opened}
 use Rattle.interpreter.proofs.Finishing.{finish-is}
 

@@ -1,5 +1,4 @@
 -- Where a block starts.
---     startings         for the code: by the table of the starts
 --     placed-fresh      a job at the start of its block stands where the book says
 -- Assumes nothing.
 use mathlib.Core.Path.{_≡_, refl, sym, ap, _∙_}
@@ -9,7 +8,7 @@ use Prim.Native.Nat.{ℕ, _+_, _<_, _≤_}
 use native.Mathlib.Omega.{arith}
 use lib.Dec.{ltb}
 use lib.ListN.{length, getD, length-map, List·getD-eq-default}
-use borrow.Author.Tests.{lt-ltb, le-ltb, ltb-true, ltb-false}
+use borrow.Author.Tests.{ltb-true, ltb-false}
 use Rattle.book.specs.declared.Refusal.the-variants.{Passed}
 use Rattle.book.specs.Control.{sweep}
 use Rattle.book.specs.Book.{Block, parse, blocksOf, blockAt, stepAt, stepsFrom}
@@ -23,16 +22,8 @@ use Rattle.book.proofs.Readable.{readable}
 use Rattle.book.proofs.Stretches.{block}
 use Rattle.machine.specs.Events.{noBlock, blockOf}
 use Rattle.acts.specs.declared.Job.{Job}
-use Rattle.interpreter.specs.Loop.{Placed, startIn}
-
-module _ (starts : List ℕ) (x end : ℕ) where
-  pub start-in : (o : ℕ) → x < length starts → o ≡ getD starts x 0 → o ≡ startIn starts x end
-  start-in o h e = e ∙ simp (lt-ltb _ _ h)
-
-  pub start-past : length starts ≤ x → end ≡ startIn starts x end
-  start-past h = simp (le-ltb _ _ h)
-
-pub ruleset startings = (start-in, start-past)
+use Rattle.tables.specs.Opening.{startIn}
+use Rattle.interpreter.specs.Loop.{Placed}
 
 end-whole : (b : List ℕ) → Whole b (length b)
 unfolding sweep

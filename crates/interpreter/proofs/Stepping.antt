@@ -25,18 +25,19 @@ use Rattle.machine.specs.States.{State}
 use Rattle.machine.specs.States as States
 use Rattle.machine.specs.Acts.{freshJob}
 use Rattle.machine.specs.Steps.{moved, gets}
-use Rattle.machine.specs.Events.{Outcome}
 use Rattle.events.proofs.Scans.{next-step}
 use Rattle.acts.specs.declared.Cell.{Cell}
 use Rattle.acts.specs.declared.Job.{Job}
 use Rattle.acts.specs.declared.Stored.{Stored}
 use Rattle.acts.specs.declared.Effect.{Effect}
 use Rattle.acts.specs.declared.Effect.the-variants.{Blocked, Give, Lower, Store, Create, Launch}
-use Rattle.acts.specs.Views.{valueIn, storedOf, jobOf, nearby, effectOf, jobAfter, answerOf, lowered, targetIn, reachedIn, clamped, sortOf, Only, waits, acts, Takes, Gives, Changes, Launches}
+use Rattle.acts.specs.Views.{valueIn, storedOf, jobOf, nearby, effectOf, jobAfter, answerOf, lowered, clamped, sortOf, Only, waits, acts}
+use Rattle.steps.specs.Turns.{targetIn, reachedIn, Takes, Gives, Changes, Launches}
 use Rattle.acts.proofs.Effect.{the-type}
-use Rattle.acts.proofs.Aiming.{target-number}
-use Rattle.acts.proofs.Nearby.{Allowed, store-inside, create-room, launch-room}
-use Rattle.interpreter.specs.Loop.{Holds, startIn}
+use Rattle.steps.proofs.Targets.{target-number}
+use Rattle.interpreter.proofs.Nearby.{Allowed, store-inside, create-room, launch-room}
+use Rattle.tables.specs.Opening.{startIn}
+use Rattle.interpreter.specs.Loop.{Holds}
 use Rattle.interpreter.proofs.Lands.{stateOf, afterwards, withJob, cells-in-use, jobs-in-use, in-table}
 use Rattle.interpreter.proofs.Lands as Lands
 use Rattle.interpreter.proofs.Holding.{holds-entry, holds-job, holds-store, holds-create, holds-launch}

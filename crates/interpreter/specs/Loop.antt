@@ -1,29 +1,22 @@
 -- What the loop over the events holds, as the machine's state over sources.
 --     Placed        a job and the offset of its next step in the book
 --     Holds         the arrays hold a state
---     startIn       where a block starts
---     openedCells   the declared cells at the start
---     Runnable      what a run that is not refused has
+--     opening       the state at the start
+--     Lent          what is lent to a run that is not refused
 --     Ready         what the loop asks for
 -- Assumes nothing.
 use Prim.Native.Nat.{ℕ, _<_, _≤_}
 use mathlib.Core.Path.{_≡_}
 use mathlib.Core.List.{List, map}
-use lib.Dec.{ltb}
 use lib.ListN.{length, take, drop, getD}
 use Rattle.labels.specs.declared.Label.{Label}
-use Rattle.labels.specs.Labels.{label}
-use Rattle.book.specs.declared.Declared.{Declared}
 use Rattle.book.specs.declared.Refusal.the-variants.{Passed}
-use Rattle.book.specs.Control.{if_then_else_}
-use Rattle.book.specs.Book.{parse, cellsOf, blocksOf, stepAt, stepsFrom, declaredAt}
+use Rattle.book.specs.Book.{parse, cellsOf, blocksOf, stepAt, stepsFrom}
 use Rattle.book.specs.Refusals.{noShape, unreadable}
-use Rattle.book.specs.declared.Outline.{Outline}
-use Rattle.book.specs.Outline.{shapeIn, startAt, outlineOf}
+use Rattle.book.specs.Outline.{shapeIn, startAt}
 use Rattle.book.specs.Asked.{Whole}
 use Rattle.machine.specs.States.{State}
 use Rattle.machine.specs.Histories.{sources}
-use Rattle.machine.specs.Records.{kindOf, numberOf}
 use Rattle.machine.specs.Events.{launchLabel, blockOf, freshState}
 use Rattle.events.specs.Bytes.{eventsIn, unplayable}
 use Rattle.acts.specs.declared.Cell.{Cell}
@@ -52,17 +45,6 @@ pub record Holds (b : List ℕ) (s : State Label) (cells : List Cell) (n : ℕ) 
 abbrev pub opening : List ℕ → State Label
 opening b = freshState sources (parse b) (launchLabel (parse b))
 
--- by the table of the blocks' starts; a block that does not exist has no steps
-abbrev pub startIn : List ℕ → ℕ → ℕ → ℕ
-startIn starts x end = if ltb x (length starts) then getD starts x 0 else end
-
--- a declared cell, as the run holds it: "Declared values have history 15."
-abbrev pub openedBy : Declared → Cell
-openedBy d = record { number = numberOf (d .value); kind = kindOf (d .value); source = label 15; shape = d .shape; label = d .label }
-
-unfoldable pub openedCells : List ℕ → List ℕ → List Cell
-openedCells b os = map (λ o. openedBy (declaredAt b o)) os
-
 -- a list of events, and memory for the tables and the answers: what refusals 9 to 11 do not hold of
 pub record Lent (list cells jobs answers : List ℕ) : Type 0 where
   pub playable : unplayable list ≡ Passed
@@ -70,13 +52,7 @@ pub record Lent (list cells jobs answers : List ℕ) : Type 0 where
   pub cells-sized : length cells ≡ 576
   pub jobs-sized : length jobs ≡ 3328
 
--- a readable book and its outline, and what is lent: what no refusal holds of
-pub record Runnable (b : List ℕ) (t : Outline) (list cells jobs answers : List ℕ) : Type 0 where
-  pub readable : unreadable b ≡ Passed
-  pub outlined : t ≡ outlineOf b
-  pub lent : Lent list cells jobs answers
-
--- the same with the parts of the outline that the loop is lent
+-- a readable book, the parts of its outline that the loop is lent, and what is lent to the run
 pub record Ready (b : List ℕ) (c : Label) (shapes offsets starts : List ℕ) (bound : Label) (list cells jobs answers : List ℕ) : Type 0 where
   pub readable : unreadable b ≡ Passed
   pub c-is : c ≡ parse b .c

@@ -1,14 +1,178 @@
-// The run of a job book.
-mod opening;
-mod play;
-mod running;
-
+// The events of a run, one after the other, from the fresh state to the saved tables.
+use acts::Effect;
+use acts::Job;
+use acts::Near;
 use book::Refusal;
-pub use running::run;
+use labels::Label;
+ghost use mathlib.Core.Path.{_≡_};
+ghost use Prim.Native.Nat.{_≤_};
+ghost use Rattle.book.specs.declared.Refusal.the-variants.{Passed};
+ghost use Rattle.interpreter.specs.Loop.{Ready};
+ghost use Rattle.interpreter.specs.Run.{runBy, ranOf};
 
 // What a run gives: its refusal, or the cells and jobs in use. After a refusal both are 0.
 pub struct Ran {
     pub refusal: Refusal,
     pub cells: usize,
     pub jobs: usize,
+}
+
+// Runs the events from the fresh state, and saves the tables. A step that is not answered at once is told apart by what it can do, so that each arm
+// has one effect to carry out; an outsider's act has an arm of its own.
+pub fn play(
+    book: &[u8],
+    c: Label,
+    shapes: &[u8],
+    offsets: &[u16],
+    starts: &[u16],
+    bound: Label,
+    list: &[u8],
+    cells: &mut [u8],
+    jobs: &mut [u8],
+    answers: &mut [u8],
+) -> Ran
+    requires { ⌜ Ready (now book) c (now shapes) (now offsets) (now starts) bound (now list) (now cells) (now jobs) (now answers) ⌝ }
+    ensures { λ r. ⌜ runBy r (now (cells .exit)) (now (jobs .exit)) (now (answers .exit)) ≡ ranOf Passed (now (book .entry)) (now (list .entry)) (now (cells .entry)) (now (jobs .entry)) (now (answers .entry)) ⌝ }
+    ensures { λ r. ⌜ (r .cells ≤ 64) × (r .jobs ≤ 64) ⌝ }
+{
+    let mut held = tables::open_cells(book, offsets);
+    let none = Job::fresh(0, 0, Label(0), Label(0));
+    let mut begun = [none; Job::TABLE_SIZE];
+    let first = Job::fresh(0, tables::start_of(starts, 0, book.len()), bound, bound);
+    begun[0] = first;
+    let mut n = offsets.len();
+    let mut m: usize = 1;
+    let mut o: usize = 0;
+    let mut at: usize = 0;
+    while o < list.len() {
+        let slot = at;
+        at = at + 1;
+        let kind = list[o];
+        if kind == 80 {
+            let i = book::byte(list, o + 1) as usize;
+            o = o + 2;
+            if i < m {
+                let place = begun[i].at;
+                let past = book::step_end(book, place);
+                if past == 0 {
+                    answers[slot] = 2;
+                    continue;
+                }
+                let k = book::byte(book, place);
+                let j = begun[i];
+                let registers = j.registers;
+                let u = steps::target_of(book, place, j.source, registers);
+                let q = acts::clamp(u.number as usize);
+                let cell = held[q];
+                let near = Near {
+                    cell: cell,
+                    cells: n,
+                    jobs: m,
+                };
+                if k == 68 {
+                    let x = steps::create(book, place, j.label, j.source, registers, near);
+                    if let Effect::Create(r, d) = x {
+                        let t = acts::names(j, past, r, n);
+                        begun[i] = t;
+                        held[n] = d;
+                        n = n + 1;
+                        answers[slot] = 0;
+                    } else {
+                        answers[slot] = 1;
+                    }
+                } else if k < 70 {
+                    let x = steps::give(book, place, j.label, j.source, registers, near, u);
+                    if let Effect::Give(r, v) = x {
+                        let t = acts::gets(j, past, r, v);
+                        begun[i] = t;
+                        answers[slot] = 0;
+                    } else {
+                        answers[slot] = 1;
+                    }
+                } else if k < 72 {
+                    let x = steps::change(book, place, j.label, j.source, registers, near, u);
+                    if let Effect::Store(d) = x {
+                        let t = acts::moved(j, past);
+                        begun[i] = t;
+                        held[q] = d;
+                        answers[slot] = 0;
+                    } else {
+                        answers[slot] = 1;
+                    }
+                } else if k == 72 {
+                    let x = steps::lower(book, place, j.label, j.source, registers, near);
+                    if let Effect::Lower(l, h) = x {
+                        let t = acts::lowered(j, past, l, h);
+                        begun[i] = t;
+                        answers[slot] = 0;
+                    } else {
+                        answers[slot] = 1;
+                    }
+                } else {
+                    let x = steps::launch(book, place, j.label, j.source, registers, near, u);
+                    if let Effect::Launch(b, l, h) = x {
+                        let t = acts::moved(j, past);
+                        begun[i] = t;
+                        let child = Job::fresh(b, tables::start_of(starts, b, book.len()), l, h);
+                        begun[m] = child;
+                        m = m + 1;
+                        answers[slot] = 0;
+                    } else {
+                        answers[slot] = 1;
+                    }
+                }
+            } else {
+                answers[slot] = 3;
+            }
+        } else {
+            let e = events::event_at(list, o);
+            o = events::next_event(list, o);
+            if outsiders::is_such(c, shapes, starts.len(), n, e) {
+                let k = outsiders::aimed_at(e);
+                let q = acts::clamp(k);
+                let cell = held[q];
+                let x = outsiders::act_outside(
+                    e,
+                    Near {
+                        cell: cell,
+                        cells: n,
+                        jobs: m,
+                    },
+                );
+                answers[slot] = acts::answer_of(x);
+                match x {
+                    Effect::Blocked => {}
+                    Effect::Give(_, _) => {}
+                    Effect::Lower(_, _) => {}
+                    Effect::Store(d) => {
+                        held[q] = d;
+                    }
+                    Effect::Create(_, d) => {
+                        held[n] = d;
+                        n = n + 1;
+                    }
+                    Effect::Launch(b, l, h) => {
+                        let child = Job::fresh(b, tables::start_of(starts, b, book.len()), l, h);
+                        begun[m] = child;
+                        m = m + 1;
+                    }
+                }
+            } else {
+                answers[slot] = 3;
+            }
+        }
+    }
+    tables::save_cells(held, n, shapes, cells);
+    let mut y: usize = 0;
+    while y < m {
+        let j = begun[y];
+        tables::save_job(j, y, jobs);
+        y = y + 1;
+    }
+    tables::clear_from(jobs, m * 52);
+    Ran {
+        refusal: Refusal::Passed,
+        cells: n,
+        jobs: m,
+    }
 }

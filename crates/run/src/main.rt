@@ -8,7 +8,7 @@ fn run(book: &[u8], list: &[u8]) {
     let mut cells = [0u8; 576];
     let mut jobs = [0u8; 3328];
     let mut answers = [0u8; 32768];
-    let ran = interpreter::run(book, list, &mut cells, &mut jobs, &mut answers);
+    let ran = running::run(book, list, &mut cells, &mut jobs, &mut answers);
     print::outcome(list, ran, &cells, &jobs, &answers);
 }
 

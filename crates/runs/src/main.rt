@@ -6,7 +6,7 @@ mod sum;
 use console::Next;
 
 fn run_on(book: &[u8], list: &[u8], cells: &mut [u8], jobs: &mut [u8], answers: &mut [u8]) {
-    let ran = interpreter::run(book, list, cells, jobs, answers);
+    let ran = running::run(book, list, cells, jobs, answers);
     print::line(list, ran, cells, jobs, answers);
 }
 

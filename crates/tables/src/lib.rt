@@ -1,4 +1,6 @@
-// The records of a run, saved as bytes into the lent tables.
+// The records of a run: what it starts from, and saved as bytes into the lent tables.
+mod opening;
+
 use acts::Cell;
 use acts::Job;
 use acts::Stored;
@@ -8,6 +10,8 @@ ghost use Prim.Native.Nat.{_+_, _≤_, _<_};
 ghost use lib.ListN.{length, take};
 ghost use Rattle.tables.specs.Bytes.{valueBytes, cellBytes, jobBytes, storedRecord, trustedRecord, jobRecordOf, savedCells};
 ghost use Rattle.tables.specs.Asked.{put, cleared, Narrow, Saved};
+pub use opening::open_cells;
+pub use opening::start_of;
 
 // Copies src into dst, from index at on.
 fn copy_in(dst: &mut [u8], at: usize, src: &[u8])

@@ -119,7 +119,7 @@ pub extern "C" fn xemdulba_run(
 ) -> Ran
     ensures { λ r. ⌜ _≡_ {A = Call} (record { result = r; cells = now (cells .exit); jobs = now (jobs .exit); answered = now (answers .exit) }) (called (ran (now (book .entry)) (now (list .entry)) (now (cells .entry)) (now (jobs .entry)) (now (answers .entry)))) ⌝ }
 {
-    let run = interpreter::run(book, list, cells, jobs, answers);
+    let run = running::run(book, list, cells, jobs, answers);
     let refusal = run.refusal;
     match refusal {
         Refusal::Refused { number, place } => {

@@ -1,7 +1,7 @@
 -- `effects::answer_of` meets its contract. Assumes nothing.
 use borrow.Author.Needs.{needs}
 use Rattle.acts.specs.Views.{answerOf}
-use Rattle.acts.proofs.Aiming.{answer-is}
+use Rattle.acts.proofs.Acting.{answer-is}
 use Rattle.acts.proofs.effects.answer_of.Statement.{statement}
 use Rattle.acts.proofs.effects.answer_of.Tie as tie
 

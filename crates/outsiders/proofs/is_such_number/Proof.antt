@@ -1,0 +1,14 @@
+-- `is_such_number` meets its contract. Assumes nothing.
+use borrow.Author.Needs.{needs}
+use Rattle.outsiders.proofs.Such.{suches}
+use Rattle.outsiders.proofs.is_such_number.Statement.{statement}
+use Rattle.outsiders.proofs.is_such_number.Tie as tie
+
+returns : tie.Need-returns
+returns c = search (suches, needs)
+
+returns-2 : tie.Need-returns-2
+returns-2 c = search (suches, needs)
+
+pub is-such-number-spec : {M : Type 1} → statement M
+is-such-number-spec = tie.close (tie.spec (λ c κs. search needs) returns returns-2)
