@@ -35,10 +35,10 @@ use Rattle.acts.specs.declared.Job.{Job}
 use Rattle.acts.specs.declared.Effect.{Effect}
 use Rattle.acts.specs.declared.Effect.the-variants.{Blocked, Give, Lower, Store, Create, Launch}
 use Rattle.acts.specs.Views.{cellOf, jobOf, nearby, effectOf, jobAfter, answerOf, clamped}
-use Rattle.steps.specs.Turns.{reachedBy, reachedIn, Takes}
+use Rattle.turns.specs.Turns.{reachedBy, reachedIn, Takes}
 use Rattle.outsiders.specs.Outside.{aimedAt, outside}
 use Rattle.interpreter.proofs.Nearby.{Reached, outside-nearby, Allowed, outside-allowed, step-lands, step-allowed}
-use Rattle.steps.proofs.Targets.{reached-same}
+use Rattle.turns.proofs.Targets.{reached-same}
 use Rattle.interpreter.specs.Loop.{Placed, Holds}
 use Rattle.interpreter.proofs.Arrays.{front-get, front-long, left-some, left-none, left-more}
 

@@ -34,7 +34,7 @@ use Rattle.acts.specs.declared.Effect as Acts
 use Rattle.acts.specs.declared.Effect.the-variants.{Blocked, Give, Store, Create, Launch}
 use Rattle.acts.specs.declared.Effect.the-variants as Effects
 use Rattle.acts.specs.Views.{cellOf, actor, nearby, effectOf, jobAfter, turnTaken, kept}
-use Rattle.steps.specs.Turns.{numberIn, targetBy, reachedBy, Takes}
+use Rattle.turns.specs.Turns.{numberIn, targetBy, reachedBy, Takes}
 use Rattle.outsiders.specs.Outside.{aimedAt, outside}
 use Rattle.acts.proofs.Acting.{same-some, same-none}
 

@@ -32,9 +32,9 @@ use Rattle.acts.specs.declared.Stored.{Stored}
 use Rattle.acts.specs.declared.Effect.{Effect}
 use Rattle.acts.specs.declared.Effect.the-variants.{Blocked, Give, Lower, Store, Create, Launch}
 use Rattle.acts.specs.Views.{valueIn, storedOf, jobOf, nearby, effectOf, jobAfter, answerOf, lowered, clamped, sortOf, Only, waits, acts}
-use Rattle.steps.specs.Turns.{targetIn, reachedIn, Takes, Gives, Changes, Launches}
+use Rattle.turns.specs.Turns.{targetIn, reachedIn, Takes, Gives, Changes, Launches}
 use Rattle.acts.proofs.Effect.{the-type}
-use Rattle.steps.proofs.Targets.{target-number}
+use Rattle.turns.proofs.Targets.{target-number}
 use Rattle.interpreter.proofs.Nearby.{Allowed, store-inside, create-room, launch-room}
 use Rattle.tables.specs.Opening.{startIn}
 use Rattle.interpreter.specs.Loop.{Holds}

@@ -61,7 +61,7 @@ pub fn play(
                 let k = book::byte(book, place);
                 let j = begun[i];
                 let registers = j.registers;
-                let u = steps::target_of(book, place, j.source, registers);
+                let u = turns::target_of(book, place, j.source, registers);
                 let q = acts::clamp(u.number as usize);
                 let cell = held[q];
                 let near = Near {
@@ -70,7 +70,7 @@ pub fn play(
                     jobs: m,
                 };
                 if k == 68 {
-                    let x = steps::create(book, place, j.label, j.source, registers, near);
+                    let x = turns::create(book, place, j.label, j.source, registers, near);
                     if let Effect::Create(r, d) = x {
                         let t = acts::names(j, past, r, n);
                         begun[i] = t;
@@ -81,7 +81,7 @@ pub fn play(
                         answers[slot] = 1;
                     }
                 } else if k < 70 {
-                    let x = steps::give(book, place, j.label, j.source, registers, near, u);
+                    let x = turns::give(book, place, j.label, j.source, registers, near, u);
                     if let Effect::Give(r, v) = x {
                         let t = acts::gets(j, past, r, v);
                         begun[i] = t;
@@ -90,7 +90,7 @@ pub fn play(
                         answers[slot] = 1;
                     }
                 } else if k < 72 {
-                    let x = steps::change(book, place, j.label, j.source, registers, near, u);
+                    let x = turns::change(book, place, j.label, j.source, registers, near, u);
                     if let Effect::Store(d) = x {
                         let t = acts::moved(j, past);
                         begun[i] = t;
@@ -100,7 +100,7 @@ pub fn play(
                         answers[slot] = 1;
                     }
                 } else if k == 72 {
-                    let x = steps::lower(book, place, j.label, j.source, registers, near);
+                    let x = turns::lower(book, place, j.label, j.source, registers, near);
                     if let Effect::Lower(l, h) = x {
                         let t = acts::lowered(j, past, l, h);
                         begun[i] = t;
@@ -109,7 +109,7 @@ pub fn play(
                         answers[slot] = 1;
                     }
                 } else {
-                    let x = steps::launch(book, place, j.label, j.source, registers, near, u);
+                    let x = turns::launch(book, place, j.label, j.source, registers, near, u);
                     if let Effect::Launch(b, l, h) = x {
                         let t = acts::moved(j, past);
                         begun[i] = t;

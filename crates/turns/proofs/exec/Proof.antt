@@ -1,0 +1,14 @@
+-- `exec` meets its contract. Assumes nothing.
+use borrow.Author.Needs.{needs}
+use Rattle.turns.proofs.Taking.{throughs}
+use Rattle.turns.proofs.exec.Statement.{statement}
+use Rattle.turns.proofs.exec.Tie as tie
+
+returns : tie.Need-returns
+returns c = search (throughs, needs)
+
+returns-2 : tie.Need-returns-2
+returns-2 c = search (throughs, needs)
+
+pub exec-spec : {M : Type 1} → statement M
+exec-spec = tie.close (tie.spec returns (λ c κs. search needs) returns-2)

@@ -1,0 +1,249 @@
+// A step of a job at label l, with source h and these registers. Where a step reaches a cell, u is the register that names it.
+use acts::Effect;
+use acts::Near;
+use acts::Stored;
+use labels::Label;
+ghost use mathlib.Core.Path.{_≡_};
+ghost use Prim.Native.Nat.{_≤_};
+ghost use lib.ListN.{length};
+ghost use Rattle.book.specs.declared.Step.the-variants.{Add, New, Read, Write, Relabel, Exec};
+ghost use Rattle.book.specs.Records.{byteAt};
+ghost use Rattle.book.specs.Book.{stepAt};
+ghost use Rattle.machine.specs.Steps.{sum};
+ghost use Rattle.acts.specs.declared.Effect.the-variants.{Give};
+ghost use Rattle.acts.specs.Views.{storedOf, registerIn, nearby, giveSort, lowerSort, storeSort, createSort, launchSort};
+ghost use Rattle.turns.specs.Turns.{targetIn, Takes, Gives, Changes, Launches};
+
+// A step gives register r this value, with the job's source h.
+fn given(r: u8, kind: u8, number: u32, h: Label) -> Effect
+    ensures { λ x. ⌜ x ≡ Give r (record { number = number; kind = kind; source = h }) ⌝ }
+{
+    Effect::Give(
+        r,
+        Stored {
+            number: number,
+            kind: kind,
+            source: h,
+        },
+    )
+}
+
+// The sum modulo 4,294,967,296.
+fn add_numbers(x: u32, y: u32) -> u32
+    ensures { λ z. ⌜ z ≡ sum x y ⌝ }
+{
+    ((x as u64 + y as u64) % 4294967296) as u32
+}
+
+fn add(l: Label, h: Label, registers: [Stored; 8], near: Near, r: u8, a: u8, b: u8) -> Effect
+    ensures { λ x. ⌜ Takes giveSort (nearby near) (Add r a b) l h registers x ⌝ }
+{
+    let u = acts::register_of(h, registers, a);
+    let v = acts::register_of(h, registers, b);
+    if u.kind != 0 {
+        return Effect::Blocked;
+    }
+    if v.kind != 0 {
+        return Effect::Blocked;
+    }
+    let z = add_numbers(u.number, v.number);
+    let s = u.source.lower_of(v.source);
+    Effect::Give(
+        r,
+        Stored {
+            number: z,
+            kind: 0,
+            source: s.lower_of(h),
+        },
+    )
+}
+
+fn new(l: Label, h: Label, registers: [Stored; 8], near: Near, r: u8, i: u8, a: u8) -> Effect
+    ensures { λ x. ⌜ Takes createSort (nearby near) (New r i a) l h registers x ⌝ }
+{
+    let v = acts::register_of(h, registers, a);
+    acts::make_cell(l, h, near, r, i, v)
+}
+
+fn read(l: Label, h: Label, registers: [Stored; 8], near: Near, u: Stored, r: u8, w: u8) -> Effect
+    requires { ⌜ storedOf u ≡ registerIn h registers w ⌝ }
+    ensures { λ x. ⌜ Takes giveSort (nearby near) (Read r w) l h registers x ⌝ }
+{
+    if u.kind != 1 {
+        return Effect::Blocked;
+    }
+    let k = u.number;
+    if (k as usize) < near.cells {
+        let cell = near.cell;
+        let content = acts::content_of(cell);
+        let t = acts::acted(h, content);
+        return Effect::Give(r, t);
+    }
+    Effect::Blocked
+}
+
+fn write(l: Label, h: Label, registers: [Stored; 8], near: Near, u: Stored, w: u8, a: u8) -> Effect
+    requires { ⌜ storedOf u ≡ registerIn h registers w ⌝ }
+    ensures { λ x. ⌜ Takes storeSort (nearby near) (Write w a) l h registers x ⌝ }
+{
+    if u.kind != 1 {
+        return Effect::Blocked;
+    }
+    // One that is blocked reads no value: that would copy the registers.
+    if acts::is_open(l, near, u.number) {
+        let v = acts::register_of(h, registers, a);
+        return acts::write_cell(l, h, near, u.number, v);
+    }
+    Effect::Blocked
+}
+
+fn relabel(
+    l: Label,
+    h: Label,
+    registers: [Stored; 8],
+    near: Near,
+    u: Stored,
+    w: u8,
+    o: Label,
+) -> Effect
+    requires { ⌜ storedOf u ≡ registerIn h registers w ⌝ }
+    ensures { λ x. ⌜ Takes storeSort (nearby near) (Relabel w o) l h registers x ⌝ }
+{
+    if u.kind != 1 {
+        return Effect::Blocked;
+    }
+    acts::relabel_cell(l, h, near, u.number, o)
+}
+
+fn exec(l: Label, h: Label, registers: [Stored; 8], near: Near, u: Stored, w: u8) -> Effect
+    requires { ⌜ storedOf u ≡ registerIn h registers w ⌝ }
+    ensures { λ x. ⌜ Takes launchSort (nearby near) (Exec w) l h registers x ⌝ }
+{
+    if u.kind != 1 {
+        return Effect::Blocked;
+    }
+    acts::exec_cell(l, h, near, u.number)
+}
+
+// The register that names the cell which the step at an offset reaches, of a job of source h; a plain 0 where the step reaches none.
+pub fn target_of(s: &[u8], o: usize, h: Label, registers: [Stored; 8]) -> Stored
+    requires { ⌜ (o ≤ length (now s)) × (64 ≤ byteAt (now s) o) ⌝ }
+    ensures { λ x. ⌜ storedOf x ≡ targetIn (stepAt (now (s .entry)) o) h registers ⌝ }
+{
+    let k = book::byte(s, o);
+    if k == 69 {
+        let w = book::byte(s, o + 2);
+        return acts::register_of(h, registers, w);
+    }
+    if k < 70 {
+        return acts::zero_with(h);
+    }
+    if k == 72 {
+        return acts::zero_with(h);
+    }
+    if k == 73 {
+        return acts::zero_with(h);
+    }
+    let w = book::byte(s, o + 1);
+    acts::register_of(h, registers, w)
+}
+
+// The step at an offset, where it gives a register a value: put, name, code, add, read.
+pub fn give(
+    s: &[u8],
+    o: usize,
+    l: Label,
+    h: Label,
+    registers: [Stored; 8],
+    near: Near,
+    u: Stored,
+) -> Effect
+    requires { ⌜ Gives (byteAt (now s) o) × (o ≤ length (now s)) × (storedOf u ≡ targetIn (stepAt (now s) o) h registers) ⌝ }
+    ensures { λ x. ⌜ Takes giveSort (nearby near) (stepAt (now (s .entry)) o) l h registers x ⌝ }
+{
+    let k = book::byte(s, o);
+    let r = book::byte(s, o + 1);
+    if k == 64 {
+        let number = book::number(s, o + 2);
+        return given(r, 0, number, h);
+    }
+    let y = book::byte(s, o + 2);
+    if k == 65 {
+        return given(r, 1, y as u32, h);
+    }
+    if k == 66 {
+        return given(r, 2, y as u32, h);
+    }
+    if k == 67 {
+        let z = book::byte(s, o + 3);
+        return add(l, h, registers, near, r, y, z);
+    }
+    read(l, h, registers, near, u, r, y)
+}
+
+// The same where it is new.
+pub fn create(s: &[u8], o: usize, l: Label, h: Label, registers: [Stored; 8], near: Near) -> Effect
+    requires { ⌜ (byteAt (now s) o ≡ 68) × (o ≤ length (now s)) ⌝ }
+    ensures { λ x. ⌜ Takes createSort (nearby near) (stepAt (now (s .entry)) o) l h registers x ⌝ }
+{
+    let r = book::byte(s, o + 1);
+    let i = book::byte(s, o + 2);
+    let a = book::byte(s, o + 3);
+    new(l, h, registers, near, r, i, a)
+}
+
+// Where it changes a cell: write, relabel.
+pub fn change(
+    s: &[u8],
+    o: usize,
+    l: Label,
+    h: Label,
+    registers: [Stored; 8],
+    near: Near,
+    u: Stored,
+) -> Effect
+    requires { ⌜ Changes (byteAt (now s) o) × (o ≤ length (now s)) × (storedOf u ≡ targetIn (stepAt (now s) o) h registers) ⌝ }
+    ensures { λ x. ⌜ Takes storeSort (nearby near) (stepAt (now (s .entry)) o) l h registers x ⌝ }
+{
+    let k = book::byte(s, o);
+    let w = book::byte(s, o + 1);
+    let y = book::byte(s, o + 2);
+    if k == 70 {
+        return write(l, h, registers, near, u, w, y);
+    }
+    relabel(l, h, registers, near, u, w, Label(y))
+}
+
+// Where it lowers the label, and appends it to the history.
+pub fn lower(s: &[u8], o: usize, l: Label, h: Label, registers: [Stored; 8], near: Near) -> Effect
+    requires { ⌜ (byteAt (now s) o ≡ 72) × (o ≤ length (now s)) ⌝ }
+    ensures { λ x. ⌜ Takes lowerSort (nearby near) (stepAt (now (s .entry)) o) l h registers x ⌝ }
+{
+    let q = Label(book::byte(s, o + 1));
+    if l.reaches(q) {
+        let source = h.lower_of(q);
+        return Effect::Lower(q, source);
+    }
+    Effect::Blocked
+}
+
+// Where it starts a job: start, exec.
+pub fn launch(
+    s: &[u8],
+    o: usize,
+    l: Label,
+    h: Label,
+    registers: [Stored; 8],
+    near: Near,
+    u: Stored,
+) -> Effect
+    requires { ⌜ Launches (byteAt (now s) o) × (o ≤ length (now s)) × (storedOf u ≡ targetIn (stepAt (now s) o) h registers) ⌝ }
+    ensures { λ x. ⌜ Takes launchSort (nearby near) (stepAt (now (s .entry)) o) l h registers x ⌝ }
+{
+    let k = book::byte(s, o);
+    let x = book::byte(s, o + 1);
+    if k == 73 {
+        return acts::start_job(l, h, near, x as u32);
+    }
+    exec(l, h, registers, near, u, x)
+}
