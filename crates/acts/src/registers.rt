@@ -97,12 +97,12 @@ pub fn lowered(j: Job, next: usize, l: Label, h: Label) -> Job
     requires { ⌜ j .position < 65535 ⌝ }
     ensures { λ x. ⌜ (jobOf x ≡ lowered (jobOf j) l h) × (x .at ≡ next) ⌝ }
 {
-    let mut t = j;
-    t.position = j.position + 1;
-    t.at = next;
-    t.label = l;
-    t.source = h;
-    t
+    let mut low = j;
+    low.position = j.position + 1;
+    low.at = next;
+    low.label = l;
+    low.source = h;
+    low
 }
 
 // The step is done, and register r has this value.
@@ -111,13 +111,13 @@ pub fn gets(j: Job, next: usize, r: u8, v: Stored) -> Job
     ensures { λ x. ⌜ (jobOf x ≡ gets sources (jobOf j) r (valueIn v) (v .source)) × (x .at ≡ next) ⌝ }
 {
     let i = r as usize;
-    let mut t = j;
-    t.position = j.position + 1;
-    t.at = next;
+    let mut filled = j;
+    filled.position = j.position + 1;
+    filled.at = next;
     if i < 8 {
-        t.registers[i] = v;
+        filled.registers[i] = v;
     }
-    t
+    filled
 }
 
 // The step is done, and register r names the cell k, with the job's history.

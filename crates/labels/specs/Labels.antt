@@ -2,7 +2,8 @@
 --     label, trust            a number as one
 --     lower                   the lower of two labels
 --     reaches, isAbove        one label against another
---     isMet, isHigh          a trust against a label: the only comparisons between the two
+--     isMet, isHigh, covers   a trust against a label
+--     normal, capped          what typing makes of a trust, by C; of a trust and a label
 -- Assumes nothing.
 use Prim.Native.Nat.{ℕ, min}
 use mathlib.Core.Bool.{Bool, true, false}
