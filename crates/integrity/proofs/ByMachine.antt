@@ -1,5 +1,6 @@
 -- Where no place is weakened, the machine with marks is the machine.
 --     turn-by, outcome-by, state-by     a step, an event, a list of events
+--     same-machine                      the whole
 -- Assumes nothing.
 use Prim.Native.Nat.{ℕ}
 use mathlib.Core.Path.{_≡_, refl, ap, _∙_}
@@ -17,7 +18,7 @@ use Rattle.machine.specs.States.{Job, State}
 use Rattle.machine.specs.Acts.{writing, relabelling, executing}
 use Rattle.machine.specs.Steps.{lowering, turnOf}
 use Rattle.machine.specs.Events.{Outcome, tableSize, finished, noSuch, blockOf, unchanged, turnLanded, outcomeOf, stateAfter}
-use Rattle.integrity.specs.Loosened.{writingBy, relabellingBy, executingBy, loweringBy, turnBy, outcomeBy, stateBy}
+use Rattle.integrity.specs.Loosened.{writingBy, relabellingBy, executingBy, loweringBy, turnBy, outcomeBy, stateBy, SameMachine}
 
 pub turn-by : (s : State History) (j : Job History) (p : Step) → turnBy "" s j p ≡ turnOf lists tableSize s j p
 unfolding turnBy writingBy relabellingBy executingBy loweringBy turnOf writing relabelling executing lowering
@@ -50,3 +51,6 @@ module _ (K : Book) where
   state-by s [] = refl
   state-by s (e ∷ es) =
       state-by (outcomeBy "" K s e .state) es ∙ ap (λ (o : Outcome History). stateAfter lists tableSize K (o .state) es) (outcome-by s e)
+
+pub same-machine : SameMachine
+same-machine = record { outcome-alike = outcome-by; state-alike = state-by }

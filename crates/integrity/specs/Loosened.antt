@@ -1,6 +1,7 @@
 -- The machine once more, with a mark at each place that the theorem needs. Where no place is weakened, this is the machine:
 -- proofs/ByMachine.antt.
 --     outcomeBy, stateBy     an event, a list of events, with a place weakened
+--     SameMachine            with no place weakened they are the machine's
 --     NeededThere            an accepted book and events that break a sentence: the theorem would be false of the weakened machine
 -- Nothing else is built on these definitions. Assumes nothing.
 use Prim.Native.Nat.{ℕ, suc}
@@ -27,7 +28,7 @@ use Rattle.machine.specs.States.{Traced, Job, State}
 use Rattle.machine.specs.Acts.{Effect, blocked, keep, store, launch, unless, isFree, execLabel, acted, freshJob, making, starting}
 use Rattle.machine.specs.Steps.{Turn, register, turn, stay, moved, gets, through, turnOf}
 use Rattle.machine.specs.Events.{Outcome, tableSize, topLabel, launchLabel, finished, noSuch, blockOf, trustOf, isOutsider, isLabel, isBlock, isCell, isValue, unchanged}
-use Rattle.machine.specs.Events.{landed, turnLanded, ifSuch, brought, freshState}
+use Rattle.machine.specs.Events.{landed, turnLanded, ifSuch, brought, freshState, outcomeOf, stateAfter}
 use Rattle.integrity.specs.Integrity.{Sentences}
 use Rattle.integrity.specs.Weakened.{instead, asked, raised}
 
@@ -130,6 +131,11 @@ module _ (weakened : String) where
     unfoldable pub stateBy : State History → List Event → State History
     stateBy s [] = s
     stateBy s (e ∷ es) = stateBy (outcomeBy s e .state) es
+
+-- The machine with no place weakened is the machine: an event, and a list of events. proofs/ByMachine.antt proves it.
+pub record SameMachine : Type 0 where
+  pub outcome-alike : (K : Book) (s : State History) (e : Event) → outcomeBy "" K s e ≡ outcomeOf lists tableSize K s e
+  pub state-alike : (K : Book) (s : State History) (es : List Event) → stateBy "" K s es ≡ stateAfter lists tableSize K s es
 
 -- An accepted book, and events after which the machine weakened at this place has broken a sentence.
 pub record NeededThere (place : String) : Type 0 where

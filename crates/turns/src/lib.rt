@@ -132,8 +132,8 @@ pub fn target_of(s: &[u8], o: usize, h: Label, registers: [Stored; 8]) -> Stored
 {
     let k = book::byte(s, o);
     if k == 69 {
-        let w = book::byte(s, o + 2);
-        return acts::register_of(h, registers, w);
+        let named = book::byte(s, o + 2);
+        return acts::register_of(h, registers, named);
     }
     if k < 70 {
         return acts::zero_with(h);
@@ -144,8 +144,8 @@ pub fn target_of(s: &[u8], o: usize, h: Label, registers: [Stored; 8]) -> Stored
     if k == 73 {
         return acts::zero_with(h);
     }
-    let w = book::byte(s, o + 1);
-    acts::register_of(h, registers, w)
+    let named = book::byte(s, o + 1);
+    acts::register_of(h, registers, named)
 }
 
 // The step at an offset, where it gives a register a value: put, name, code, add, read.
@@ -240,9 +240,9 @@ pub fn launch(
     requires { ⌜ Launches (byteAt (now s) o) × (o ≤ length (now s)) × (storedOf u ≡ targetIn (stepAt (now s) o) h registers) ⌝ }
     ensures { λ x. ⌜ Takes launchSort (nearby near) (stepAt (now (s .entry)) o) l h registers x ⌝ }
 {
-    let k = book::byte(s, o);
+    let kind = book::byte(s, o);
     let x = book::byte(s, o + 1);
-    if k == 73 {
+    if kind == 73 {
         return acts::start_job(l, h, near, x as u32);
     }
     exec(l, h, registers, near, u, x)
