@@ -1,4 +1,3 @@
-pub mod Calls
 pub mod Tests
 pub mod Lists
 pub mod Every

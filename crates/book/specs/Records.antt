@@ -1,7 +1,6 @@
 -- The records of a book, by their offsets: "A book is read record by record from its first byte."
 --     byteAt, numberAt         a byte, a number
 --     next, cut                the offset past a record; refusal 2 holds of it
---     readerAt                 a reader of a lent book, at an offset
 --     recordsFrom, records     the records from an offset on, up to one that refusal 2 holds of
 --     inGroup                  the group of a record
 -- Assumes nothing.
@@ -9,8 +8,6 @@ use Prim.Native.Nat.{ℕ, _+_, _*_}
 use mathlib.Core.Bool.{Bool}
 use mathlib.Core.List.{List}
 use lib.Dec.{eqb}
-use denote.Ref.{RefT}
-use Rattle.book.specs.declared.reader.Reader.{Reader}
 use Rattle.book.specs.Kinds.{span, group}
 use Rattle.book.specs.Spans.{nextBy, cutBy, offsetsBy}
 pub use Rattle.book.specs.Spans.{byteAt}
@@ -21,10 +18,6 @@ numberAt s o = byteAt s o + 256 * byteAt s (o + 1) + 65536 * byteAt s (o + 2) + 
 
 abbrev pub next : List ℕ → ℕ → ℕ
 next s o = nextBy span s o
-
--- "read record by record from its first byte": what a reader of the lent book b holds at the offset o; it begins at 0
-abbrev pub readerAt : RefT (List ℕ) → ℕ → Reader
-readerAt b o = record { book = b; at = o }
 
 -- refusal 2: "A kind is none of the above, or the book ends inside a body."
 abbrev pub cut : List ℕ → ℕ → Bool

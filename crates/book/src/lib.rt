@@ -1,27 +1,6 @@
-// The records of a job book: their fields, from one to the next, the step or the declared cell at an offset; and the words for what reading a book gives.
-mod decode;
-mod fields;
-mod naming;
-mod reader;
-mod walk;
-
-pub use decode::cell_at;
-pub use decode::decode_cell;
-pub use decode::decode_shape;
-pub use decode::decode_step;
-pub use decode::shape_in;
-pub use decode::step_at;
-pub use decode::step_end;
-pub use decode::value_of;
-pub use fields::byte;
-pub use fields::group_of;
-pub use fields::number;
-pub use fields::offset_of;
+// The words for what a job book says, and for what reading one gives.
 use labels::Label;
 use labels::Trust;
-pub use naming::value_named;
-pub use walk::next_record;
-pub use walk::skip_steps;
 ghost use mathlib.Core.Path.{_≡_};
 ghost use Rattle.book.specs.Outline.{noCounts, noOutline, refusedReading};
 ghost use Rattle.book.specs.Stretch.{lost};

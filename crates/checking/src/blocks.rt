@@ -30,7 +30,7 @@ pub fn check_block(
     let mut s = State::fresh(bound);
     let mut o: usize = 0;
     while o < stretch.len() {
-        let StepAt::StepThere(p, next) = book::step_at(stretch, o) else {
+        let StepAt::StepThere(p, next) = decode::step_at(stretch, o) else {
             return Fault::Nowhere;
         };
         let x = typing::type_step(table, owners, bounds, c, s, p);
@@ -70,8 +70,8 @@ pub fn step_fault(
 {
     let mut i: usize = 0;
     while i < bounds.len() {
-        let start = book::offset_of(starts[i]);
-        let length = book::offset_of(lengths[i]);
+        let start = records::offset_of(starts[i]);
+        let length = records::offset_of(lengths[i]);
         let end = start + length;
         let stretch = &book[start..end];
         let bound = Label(bounds[i]);

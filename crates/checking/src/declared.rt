@@ -22,8 +22,8 @@ pub fn cell_fault(
 {
     let mut i: usize = 0;
     while i < cells.len() {
-        let o = book::offset_of(cells[i]);
-        let CellAt::CellThere(d) = book::cell_at(book, o) else {
+        let o = records::offset_of(cells[i]);
+        let CellAt::CellThere(d) = decode::cell_at(book, o) else {
             return Fault::Nowhere;
         };
         if typing::is_declared_ok(table, owners, bounds, c, d) {

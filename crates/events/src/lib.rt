@@ -78,16 +78,16 @@ pub fn event_at(list: &[u8], o: usize) -> Event
     ensures { λ r. ⌜ r ≡ eventAt (now (list .entry)) o ⌝ }
 {
     let k = list[o];
-    let x = book::byte(list, o + 1);
+    let x = records::byte(list, o + 1);
     if k == 80 {
         return Event::StepOf(x);
     }
-    let y = book::byte(list, o + 2);
-    let z = book::byte(list, o + 3);
+    let y = records::byte(list, o + 2);
+    let z = records::byte(list, o + 3);
     match k {
-        81 => Event::WriteBy(Label(x), y, z, book::number(list, o + 4)),
+        81 => Event::WriteBy(Label(x), y, z, records::number(list, o + 4)),
         82 => Event::RelabelBy(Label(x), y, Label(z)),
-        83 => Event::NewBy(Label(x), y, z, book::number(list, o + 4)),
+        83 => Event::NewBy(Label(x), y, z, records::number(list, o + 4)),
         84 => Event::ExecBy(Label(x), y),
         _ => Event::StartBy(Label(x), y),
     }

@@ -14,7 +14,7 @@ ghost use Rattle.book.specs.Asked.{Outlined, cellKind};
 fn is_cell_shape(shapes: &[u8], i: u8) -> bool
     ensures { λ r. ⌜ r ≡ cellKind (now (shapes .entry)) i ⌝ }
 {
-    let x = book::shape_in(shapes, i);
+    let x = decode::shape_in(shapes, i);
     x.kind == 18
 }
 
@@ -24,7 +24,7 @@ fn cell_named(cell: Declared, shapes: &[u8], cells: usize, blocks: usize) -> boo
 {
     let value = cell.value;
     if is_cell_shape(shapes, cell.shape) {
-        return book::value_named(value, cells, blocks);
+        return decode::value_named(value, cells, blocks);
     }
     false
 }
@@ -55,16 +55,16 @@ fn is_dangling(s: &[u8], o: usize, n: usize, shapes: &[u8], cells: usize, blocks
 {
     let k = s[o];
     if k == 18 {
-        let content = book::byte(s, o + 1);
+        let content = records::byte(s, o + 1);
         return n <= content as usize;
     }
-    let g = book::group_of(k);
+    let g = records::group_of(k);
     if g == 3 {
-        let cell = book::decode_cell(s, o);
+        let cell = decode::decode_cell(s, o);
         return !cell_named(cell, shapes, cells, blocks);
     }
     if g == 5 {
-        let step = book::decode_step(s, o);
+        let step = decode::decode_step(s, o);
         return !step_named(step, shapes, cells, blocks);
     }
     false
@@ -85,8 +85,8 @@ pub fn name_fault(s: &[u8], t: Outline) -> Fault
             return Fault::At(o);
         }
         let k = s[o];
-        let g = book::group_of(k);
-        o = book::next_record(s, o);
+        let g = records::group_of(k);
+        o = records::next_record(s, o);
         if g == 2 {
             n = n + 1;
         }

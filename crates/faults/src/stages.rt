@@ -14,7 +14,7 @@ pub fn cut_fault(s: &[u8]) -> Fault
 {
     let mut o: usize = 0;
     while o < s.len() {
-        let end = book::next_record(s, o);
+        let end = records::next_record(s, o);
         if end == o {
             return Fault::At(o);
         }
@@ -58,11 +58,11 @@ pub fn order_fault(s: &[u8]) -> Fault
     let mut p: u8 = 0;
     while o < s.len() {
         let k = s[o];
-        let g = book::group_of(k);
+        let g = records::group_of(k);
         let ok = in_order(p, g);
         if ok {
             p = block_group(g);
-            o = book::next_record(s, o);
+            o = records::next_record(s, o);
         } else {
             return Fault::At(o);
         }
@@ -128,12 +128,12 @@ pub fn count_fault(s: &[u8]) -> Fault
     };
     while o < s.len() {
         let k = s[o];
-        let m = count(n, book::group_of(k));
+        let m = count(n, records::group_of(k));
         if too_many(m) {
             return Fault::At(o);
         }
         n = m;
-        o = book::next_record(s, o);
+        o = records::next_record(s, o);
     }
     Fault::Nowhere
 }
@@ -237,13 +237,13 @@ fn out_of_range(s: &[u8], o: usize) -> bool
     ensures { λ r. ⌜ r ≡ outOfRange (now (s .entry)) o ⌝ }
 {
     let k = s[o];
-    if first_limit(k) < book::byte(s, o + 1) {
+    if first_limit(k) < records::byte(s, o + 1) {
         return true;
     }
-    if second_limit(k) < book::byte(s, o + 2) {
+    if second_limit(k) < records::byte(s, o + 2) {
         return true;
     }
-    third_limit(k) < book::byte(s, o + 3)
+    third_limit(k) < records::byte(s, o + 3)
 }
 
 // 5: a label, bound or trust above 15, C above 14, a register above 7, a value kind above 2.
@@ -256,7 +256,7 @@ pub fn range_fault(s: &[u8]) -> Fault
         if out_of_range(s, o) {
             return Fault::At(o);
         }
-        o = book::next_record(s, o);
+        o = records::next_record(s, o);
     }
     Fault::Nowhere
 }

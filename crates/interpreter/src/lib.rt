@@ -49,16 +49,16 @@ pub fn play(
         at = at + 1;
         let kind = list[o];
         if kind == 80 {
-            let i = book::byte(list, o + 1) as usize;
+            let i = records::byte(list, o + 1) as usize;
             o = o + 2;
             if i < m {
                 let place = begun[i].at;
-                let past = book::step_end(book, place);
+                let past = decode::step_end(book, place);
                 if past == 0 {
                     answers[slot] = 2;
                     continue;
                 }
-                let k = book::byte(book, place);
+                let k = records::byte(book, place);
                 let j = begun[i];
                 let registers = j.registers;
                 let u = turns::target_of(book, place, j.source, registers);

@@ -38,7 +38,7 @@ pub fn record(book: &[u8], place: usize, refusal: u8, n: Tally) {
         return;
     }
     if refusal == 2 {
-        let kind = book::byte(book, place);
+        let kind = records::byte(book, place);
         words::field(b"kind ", kind);
         name(kind);
         return;
@@ -48,7 +48,7 @@ pub fn record(book: &[u8], place: usize, refusal: u8, n: Tally) {
 
 // 2: a kind is none of the above, or the book ends inside a body.
 fn unreadable(kind: u8) {
-    if book::group_of(kind) == 0 {
+    if records::group_of(kind) == 0 {
         put(b"no record has this kind");
     } else {
         put(b"the book ends inside the record");
@@ -106,7 +106,7 @@ fn unnamed(kind: u8) {
 pub fn mark(book: &[u8], place: usize, refusal: u8) {
     words::field(b"  <- refused ", refusal);
     put(b": ");
-    let kind = book::byte(book, place);
+    let kind = records::byte(book, place);
     match refusal {
         1 => put(b"the book is longer than 32768 bytes"),
         2 => unreadable(kind),

@@ -9,7 +9,7 @@ pub fn next_record(book: &[u8], o: usize) -> usize
     requires { ⌜ o < length (now book) ⌝ }
     ensures { λ r. ⌜ (o < r) × (r ≤ length (now (book .entry))) ⌝ }
 {
-    let end = book::next_record(book, o);
+    let end = records::next_record(book, o);
     if end <= o {
         return book.len();
     }
@@ -24,7 +24,7 @@ pub fn counted(book: &[u8], o: usize, n: Tally) -> Tally
     requires { ⌜ (o < length (now book)) × AtMost n o ⌝ }
     ensures { λ r. ⌜ AtMost r (o + 1) ⌝ }
 {
-    let kind = book::byte(book, o);
+    let kind = records::byte(book, o);
     let mut m = n;
     if kind < 16 {
         return m;

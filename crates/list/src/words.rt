@@ -63,9 +63,9 @@ fn two_fields(name: &[u8], x: u8, second: &[u8], y: u8) {
 fn shape(book: &[u8], o: usize)
     requires { ⌜ o < length (now book) ⌝ }
 {
-    let x = book::byte(book, o + 1);
-    let y = book::byte(book, o + 2);
-    match book::byte(book, o) {
+    let x = records::byte(book, o + 1);
+    let y = records::byte(book, o + 2);
+    match records::byte(book, o) {
         16 => put(b"plain"),
         17 => field(b"code, bound ", x),
         _ => two_fields(b"cell of shape ", x, b", trust ", y),
@@ -91,11 +91,11 @@ fn value(kind: u8, v: Value) {
 fn cell(book: &[u8], o: usize)
     requires { ⌜ o < length (now book) ⌝ }
 {
-    if let CellAt::CellThere(x) = book::cell_at(book, o) {
+    if let CellAt::CellThere(x) = decode::cell_at(book, o) {
         let label = x.label;
         let v = x.value;
         two_fields(b"shape ", x.shape, b", label ", label.0);
-        value(book::byte(book, o + 3), v);
+        value(records::byte(book, o + 3), v);
     }
 }
 
@@ -128,8 +128,8 @@ fn step(s: Step) {
 pub fn record(book: &[u8], o: usize, n: Tally)
     requires { ⌜ o < length (now book) ⌝ }
 {
-    match book::byte(book, o) {
-        1 => field(b"C          ", book::byte(book, o + 1)),
+    match records::byte(book, o) {
+        1 => field(b"C          ", records::byte(book, o + 1)),
         16 | 17 | 18 => {
             head(b"shape ", n.shapes);
             shape(book, o);
@@ -140,11 +140,11 @@ pub fn record(book: &[u8], o: usize, n: Tally)
         }
         48 => {
             head(b"block ", n.blocks);
-            field(b"bound ", book::byte(book, o + 1));
+            field(b"bound ", records::byte(book, o + 1));
         }
         _ => {
             head(b"  step ", n.steps);
-            if let StepAt::StepThere(s, _) = book::step_at(book, o) {
+            if let StepAt::StepThere(s, _) = decode::step_at(book, o) {
                 step(s);
             }
         }

@@ -15,7 +15,7 @@ ghost use Rattle.outsiders.specs.Outside.{lowCellShape, suchValue, suchW
 fn is_low_cell_shape(c: Label, shapes: &[u8], i: u8) -> bool
     ensures { λ r. ⌜ r ≡ lowCellShape c (shapeIn (now (shapes .entry)) i) ⌝ }
 {
-    let x = book::shape_in(shapes, i);
+    let x = decode::shape_in(shapes, i);
     let trust = x.trust;
     if x.kind == 18 {
         return !trust.is_high(c);
@@ -27,9 +27,9 @@ fn is_low_cell_shape(c: Label, shapes: &[u8], i: u8) -> bool
 fn is_such_value(cells: usize, blocks: usize, kind: u8, number: u32) -> bool
     ensures { λ r. ⌜ r ≡ suchValue cells blocks kind number ⌝ }
 {
-    let v = book::value_of(kind, number);
+    let v = decode::value_of(kind, number);
     if kind <= 2 {
-        return book::value_named(v, cells, blocks);
+        return decode::value_named(v, cells, blocks);
     }
     false
 }

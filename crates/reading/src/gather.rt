@@ -30,7 +30,7 @@ fn put_cell(cell: &mut [u16; 32], shaped: &mut [u8; 32], i: usize, s: &[u8], o: 
     ensures { λ _. ⌜ now (shaped .exit) ≡ set (now (shaped .entry)) i (byteAt (now (s .entry)) (o + 1)) ⌝ }
 {
     cell[i] = o as u16;
-    shaped[i] = book::byte(s, o + 1);
+    shaped[i] = records::byte(s, o + 1);
 }
 
 // Puts the block at an offset, whose steps stand from w up to e, into the tables of blocks.
@@ -49,7 +49,7 @@ fn put_block(
     ensures { λ _. ⌜ now (start .exit) ≡ set (now (start .entry)) i w ⌝ }
     ensures { λ _. ⌜ now (size .exit) ≡ set (now (size .entry)) i (e - w) ⌝ }
 {
-    bound[i] = book::byte(s, o + 1);
+    bound[i] = records::byte(s, o + 1);
     start[i] = w as u16;
     size[i] = (e - w) as u16;
 }
@@ -71,10 +71,10 @@ fn fill(
     let mut o: usize = 0;
     while o < s.len() {
         let k = s[o];
-        let g = book::group_of(k);
-        let w = book::next_record(s, o);
+        let g = records::group_of(k);
+        let w = records::next_record(s, o);
         if g == 2 {
-            let x = book::decode_shape(s, o);
+            let x = decode::decode_shape(s, o);
             put_shape(shape, n.shapes, x);
             n.shapes = n.shapes + 1;
             o = w;
@@ -83,7 +83,7 @@ fn fill(
             n.cells = n.cells + 1;
             o = w;
         } else if g == 4 {
-            let r = book::skip_steps(s, w);
+            let r = records::skip_steps(s, w);
             put_block(bound, start, size, n.blocks, s, o, w, r.at);
             n.blocks = n.blocks + 1;
             n.steps = n.steps + r.count;
@@ -116,7 +116,7 @@ pub fn outline(s: &[u8]) -> Outline
         &mut length,
     );
     Outline {
-        c: Label(book::byte(s, 1)),
+        c: Label(records::byte(s, 1)),
         counts: n,
         shape: shape,
         cell: cell,

@@ -37,7 +37,7 @@ fn feed_value(sum: u32, v: Value) -> u32 {
 
 // The record's offset and the shape as the outline has them, then label and value as the record has them.
 fn feed_cell(sum: u32, book: &[u8], at: u16, shape: u8) -> u32 {
-    match book::cell_at(book, at as usize) {
+    match decode::cell_at(book, at as usize) {
         CellAt::NoCell => sum,
         CellAt::CellThere(cell) => {
             let value = cell.value;
@@ -68,7 +68,7 @@ fn feed_steps(sum: u32, stretch: &[u8]) -> u32 {
     let mut total = sum;
     let mut o: usize = 0;
     while o < stretch.len() {
-        match book::step_at(stretch, o) {
+        match decode::step_at(stretch, o) {
             StepAt::NoStep => {
                 return total;
             }
@@ -96,7 +96,7 @@ fn feed_shapes(sum: u32, t: Outline) -> u32 {
         if n <= i as usize {
             return total;
         }
-        total = feed_shape(total, book::shape_in(&shapes, i));
+        total = feed_shape(total, decode::shape_in(&shapes, i));
         i = i + 1;
     }
     total

@@ -6,7 +6,7 @@ use interpreter::Ran;
 
 fn field(name: &[u8], table: &[u8], at: usize) {
     put(name);
-    number(book::byte(table, at) as usize);
+    number(records::byte(table, at) as usize);
 }
 
 fn kind(n: u8) {
@@ -22,8 +22,8 @@ fn value(table: &[u8], at: usize) {
     if table.len() < at {
         return;
     }
-    kind(book::byte(table, at));
-    number(book::number(table, at + 1) as usize);
+    kind(records::byte(table, at));
+    number(records::number(table, at + 1) as usize);
     field(b" source ", table, at + 5);
     put(b"\n");
 }

@@ -16,13 +16,13 @@ fn fit(s: &[u8], o: usize, w: u8, a: u8, b: u8, c: u8) -> u8
     if s.len() - o < w as usize {
         return 0;
     }
-    if a < book::byte(s, o + 1) {
+    if a < records::byte(s, o + 1) {
         return 0;
     }
-    if b < book::byte(s, o + 2) {
+    if b < records::byte(s, o + 2) {
         return 0;
     }
-    if c < book::byte(s, o + 3) {
+    if c < records::byte(s, o + 3) {
         return 0;
     }
     w
@@ -70,7 +70,7 @@ pub fn is_clear(s: &[u8]) -> bool
     };
     while o < s.len() {
         let k = s[o];
-        let g = book::group_of(k);
+        let g = records::group_of(k);
         let w = fit_record(s, o);
         if w == 0 {
             return false;

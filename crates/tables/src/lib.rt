@@ -97,7 +97,7 @@ pub fn save_cells(cells: [Cell; Job::TABLE_SIZE], n: usize, shapes: &[u8], out: 
     let mut i: usize = 0;
     while i < n {
         let c = cells[i];
-        let shape = book::shape_in(shapes, c.shape);
+        let shape = decode::shape_in(shapes, c.shape);
         let b = cell_bytes(c, shape.trust);
         copy_in(out, i * 9, &b);
         i = i + 1;

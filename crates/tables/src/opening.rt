@@ -64,8 +64,8 @@ pub fn open_cells(book: &[u8], offsets: &[u16]) -> [Cell; Job::TABLE_SIZE]
     let mut cells = [none; Job::TABLE_SIZE];
     let mut i: usize = 0;
     while i < offsets.len() {
-        let o = book::offset_of(offsets[i]);
-        let CellAt::CellThere(d) = book::cell_at(book, o) else {
+        let o = records::offset_of(offsets[i]);
+        let CellAt::CellThere(d) = decode::cell_at(book, o) else {
             return cells;
         };
         let cell = open_cell(d);
@@ -81,7 +81,7 @@ pub fn start_of(starts: &[u16], block: u32, end: usize) -> usize
 {
     let i = block as usize;
     if i < starts.len() {
-        return book::offset_of(starts[i]);
+        return records::offset_of(starts[i]);
     }
     end
 }

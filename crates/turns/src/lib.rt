@@ -130,9 +130,9 @@ pub fn target_of(s: &[u8], o: usize, h: Label, registers: [Stored; 8]) -> Stored
     requires { ⌜ (o ≤ length (now s)) × (64 ≤ byteAt (now s) o) ⌝ }
     ensures { λ x. ⌜ storedOf x ≡ targetIn (stepAt (now (s .entry)) o) h registers ⌝ }
 {
-    let k = book::byte(s, o);
+    let k = records::byte(s, o);
     if k == 69 {
-        let named = book::byte(s, o + 2);
+        let named = records::byte(s, o + 2);
         return acts::register_of(h, registers, named);
     }
     if k < 70 {
@@ -144,7 +144,7 @@ pub fn target_of(s: &[u8], o: usize, h: Label, registers: [Stored; 8]) -> Stored
     if k == 73 {
         return acts::zero_with(h);
     }
-    let named = book::byte(s, o + 1);
+    let named = records::byte(s, o + 1);
     acts::register_of(h, registers, named)
 }
 
@@ -161,13 +161,13 @@ pub fn give(
     requires { ⌜ Gives (byteAt (now s) o) × (o ≤ length (now s)) × (storedOf u ≡ targetIn (stepAt (now s) o) h registers) ⌝ }
     ensures { λ x. ⌜ Takes giveSort (nearby near) (stepAt (now (s .entry)) o) l h registers x ⌝ }
 {
-    let k = book::byte(s, o);
-    let r = book::byte(s, o + 1);
+    let k = records::byte(s, o);
+    let r = records::byte(s, o + 1);
     if k == 64 {
-        let number = book::number(s, o + 2);
+        let number = records::number(s, o + 2);
         return given(r, 0, number, h);
     }
-    let y = book::byte(s, o + 2);
+    let y = records::byte(s, o + 2);
     if k == 65 {
         return given(r, 1, y as u32, h);
     }
@@ -175,7 +175,7 @@ pub fn give(
         return given(r, 2, y as u32, h);
     }
     if k == 67 {
-        let z = book::byte(s, o + 3);
+        let z = records::byte(s, o + 3);
         return add(l, h, registers, near, r, y, z);
     }
     read(l, h, registers, near, u, r, y)
@@ -186,9 +186,9 @@ pub fn create(s: &[u8], o: usize, l: Label, h: Label, registers: [Stored; 8], ne
     requires { ⌜ (byteAt (now s) o ≡ 68) × (o ≤ length (now s)) ⌝ }
     ensures { λ x. ⌜ Takes createSort (nearby near) (stepAt (now (s .entry)) o) l h registers x ⌝ }
 {
-    let r = book::byte(s, o + 1);
-    let i = book::byte(s, o + 2);
-    let a = book::byte(s, o + 3);
+    let r = records::byte(s, o + 1);
+    let i = records::byte(s, o + 2);
+    let a = records::byte(s, o + 3);
     new(l, h, registers, near, r, i, a)
 }
 
@@ -205,9 +205,9 @@ pub fn change(
     requires { ⌜ Changes (byteAt (now s) o) × (o ≤ length (now s)) × (storedOf u ≡ targetIn (stepAt (now s) o) h registers) ⌝ }
     ensures { λ x. ⌜ Takes storeSort (nearby near) (stepAt (now (s .entry)) o) l h registers x ⌝ }
 {
-    let k = book::byte(s, o);
-    let w = book::byte(s, o + 1);
-    let y = book::byte(s, o + 2);
+    let k = records::byte(s, o);
+    let w = records::byte(s, o + 1);
+    let y = records::byte(s, o + 2);
     if k == 70 {
         return write(l, h, registers, near, u, w, y);
     }
@@ -219,7 +219,7 @@ pub fn lower(s: &[u8], o: usize, l: Label, h: Label, registers: [Stored; 8], nea
     requires { ⌜ (byteAt (now s) o ≡ 72) × (o ≤ length (now s)) ⌝ }
     ensures { λ x. ⌜ Takes lowerSort (nearby near) (stepAt (now (s .entry)) o) l h registers x ⌝ }
 {
-    let q = Label(book::byte(s, o + 1));
+    let q = Label(records::byte(s, o + 1));
     if l.reaches(q) {
         let source = h.lower_of(q);
         return Effect::Lower(q, source);
@@ -240,8 +240,8 @@ pub fn launch(
     requires { ⌜ Launches (byteAt (now s) o) × (o ≤ length (now s)) × (storedOf u ≡ targetIn (stepAt (now s) o) h registers) ⌝ }
     ensures { λ x. ⌜ Takes launchSort (nearby near) (stepAt (now (s .entry)) o) l h registers x ⌝ }
 {
-    let kind = book::byte(s, o);
-    let x = book::byte(s, o + 1);
+    let kind = records::byte(s, o);
+    let x = records::byte(s, o + 1);
     if kind == 73 {
         return acts::start_job(l, h, near, x as u32);
     }

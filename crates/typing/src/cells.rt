@@ -19,7 +19,7 @@ pub fn name_step(shapes: &[u8], cells: &[u8], c: Label, s: State, r: u8, k: u8) 
     let n = k as usize;
     if n < cells.len() {
         let i = cells[n];
-        let x = book::shape_in(shapes, i);
+        let x = decode::shape_in(shapes, i);
         if x.kind == 18 {
             let p = s.p;
             return rules::give(s, r, Known::CellOf(i), p);
@@ -61,7 +61,7 @@ fn does_hold(shapes: &[u8], c: Label, s: State, a: u8, i: u8) -> bool
     requires { ⌜ Sound (shapeIn (now shapes)) ⌝ }
     ensures { λ x. ⌜ x ≡ holds c (shapeIn (now (shapes .entry))) s a i ⌝ }
 {
-    let x = book::shape_in(shapes, i);
+    let x = decode::shape_in(shapes, i);
     let known = rules::known_in(c, s, a);
     if shapes::does_fit(shapes, c, known, x.content) {
         let trust = shapes::trust_of(shapes, c, i);
@@ -76,7 +76,7 @@ pub fn new_step(shapes: &[u8], c: Label, s: State, r: u8, i: u8, a: u8) -> Stepp
     ensures { λ x. ⌜ told s x ≡ making c (shapeIn (now (shapes .entry))) s r i a ⌝ }
 {
     let p = s.p;
-    let x = book::shape_in(shapes, i);
+    let x = decode::shape_in(shapes, i);
     if x.kind == 18 {
         if shapes::is_high(shapes, c, i) {
             if s.lowered {
@@ -109,7 +109,7 @@ fn cell_in(c: Label, s: State, w: u8) -> Cell
 fn read_cell(shapes: &[u8], c: Label, s: State, r: u8, i: u8) -> Stepped
     ensures { λ x. ⌜ told s x ≡ readFrom c (shapeIn (now (shapes .entry))) s r i ⌝ }
 {
-    let y = book::shape_in(shapes, i);
+    let y = decode::shape_in(shapes, i);
     let known = shapes::known_of(shapes, c, y.content);
     let trust = shapes::trust_of(shapes, c, i);
     let p = s.p;
@@ -181,8 +181,8 @@ pub fn exec_step(shapes: &[u8], c: Label, s: State, w: u8) -> Stepped
     match cell_in(c, s, w) {
         Cell::No => rules::fail(s),
         Cell::Of(i) => {
-            let y = book::shape_in(shapes, i);
-            let z = book::shape_in(shapes, y.content);
+            let y = decode::shape_in(shapes, i);
+            let z = decode::shape_in(shapes, y.content);
             let trust = shapes::trust_of(shapes, c, i);
             let bound = z.bound;
             let p = s.p;

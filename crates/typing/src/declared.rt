@@ -45,7 +45,7 @@ pub fn is_declared_ok(table: &[u8], owners: &[u8], bounds: &[u8], c: Label, d: D
         let trust = shapes::trust_of(table, c, i);
         if trust.is_met(label) {
             let known = known_value(owners, bounds, value);
-            let x = book::shape_in(table, i);
+            let x = decode::shape_in(table, i);
             return shapes::does_fit(table, c, known, x.content);
         }
         return false;

@@ -22,7 +22,7 @@ fn is_plain(x: Shape) -> bool
 pub fn trust_of(shapes: &[u8], c: Label, i: u8) -> Trust
     ensures { λ r. ⌜ r ≡ trustOf c (shapeIn (now (shapes .entry))) i ⌝ }
 {
-    let x = book::shape_in(shapes, i);
+    let x = decode::shape_in(shapes, i);
     let trust = x.trust;
     trust.normal(c)
 }
@@ -40,8 +40,8 @@ pub fn are_alike(shapes: &[u8], c: Label, i: u8, j: u8) -> bool
     requires { ⌜ Sound (shapeIn (now shapes)) ⌝ }
     ensures { λ r. ⌜ r ≡ alike c (shapeIn (now (shapes .entry))) i j ⌝ }
 {
-    let a = book::shape_in(shapes, i);
-    let b = book::shape_in(shapes, j);
+    let a = decode::shape_in(shapes, i);
+    let b = decode::shape_in(shapes, j);
     if a.kind == 17 {
         if b.kind == 17 {
             return a.bound.0 == b.bound.0;
@@ -66,7 +66,7 @@ pub fn are_alike(shapes: &[u8], c: Label, i: u8, j: u8) -> bool
 pub fn known_of(shapes: &[u8], c: Label, i: u8) -> Known
     ensures { λ r. ⌜ r ≡ knownOf c (shapeIn (now (shapes .entry))) i ⌝ }
 {
-    let x = book::shape_in(shapes, i);
+    let x = decode::shape_in(shapes, i);
     let bound = x.bound;
     if x.kind == 17 {
         return Known::Code(bound);
@@ -84,9 +84,9 @@ pub fn does_fit(shapes: &[u8], c: Label, known: Known, i: u8) -> bool
 {
     match known {
         Known::Unknown => false,
-        Known::Plain => is_plain(book::shape_in(shapes, i)),
+        Known::Plain => is_plain(decode::shape_in(shapes, i)),
         Known::Code(b) => {
-            let x = book::shape_in(shapes, i);
+            let x = decode::shape_in(shapes, i);
             let bound = x.bound;
             if x.kind == 17 {
                 return b.reaches(bound);

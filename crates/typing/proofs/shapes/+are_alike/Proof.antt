@@ -3,7 +3,7 @@ use Prim.Native.Nat.{ℕ, _<_}
 use borrow.Author.Needs.{needs}
 use borrow.Fn.Kinds.{In}
 use borrow.Fn.PlainCycle.{Measures, is, falls, and}
-use Rattle.book.proofs.shape_in.Reads as shape-in-reads
+use Rattle.decode.proofs.shape_in.Reads as shape-in-reads
 use Rattle.typing.proofs.Likes.{likes, content-falls}
 use Rattle.typing.proofs.shapes.+are_alike.Lts-are_alike as are-alike-lts
 use Rattle.typing.proofs.shapes.+are_alike.Tie.{close}
