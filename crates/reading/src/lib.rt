@@ -35,20 +35,19 @@ pub fn read(book: &[u8]) -> Reading
     if 32768 < book.len() {
         return Reading::refused(1, 0);
     }
-    if screening::is_clear(book) {
-        return read_clear(book);
-    }
-    if let Fault::At(o) = faults::cut_fault(book) {
-        return Reading::refused(2, o);
-    }
-    if let Fault::At(o) = faults::order_fault(book) {
-        return Reading::refused(3, o);
-    }
-    if let Fault::At(o) = faults::count_fault(book) {
-        return Reading::refused(4, o);
-    }
-    if let Fault::At(o) = faults::range_fault(book) {
-        return Reading::refused(5, o);
+    if !screening::is_clear(book) {
+        if let Fault::At(o) = faults::cut_fault(book) {
+            return Reading::refused(2, o);
+        }
+        if let Fault::At(o) = faults::order_fault(book) {
+            return Reading::refused(3, o);
+        }
+        if let Fault::At(o) = faults::count_fault(book) {
+            return Reading::refused(4, o);
+        }
+        if let Fault::At(o) = faults::range_fault(book) {
+            return Reading::refused(5, o);
+        }
     }
     read_clear(book)
 }
