@@ -1,8 +1,5 @@
--- Laws of the run, for the code: what a callee gave stands as a variable with its equation.
---     memories, refusals      the memory's refusals, and the stages'
+-- The end of a run.
 --     finish-is     the memory after a run that is not refused
---     lends         the parts of the outline that the loop is lent
---     runs          the whole
 -- Assumes nothing.
 use mathlib.Core.Path.{_≡_, refl, sym, ap, _∙_}
 use mathlib.Core.List.{List, _++_, map}

@@ -1,6 +1,7 @@
 -- Laws of the steps, for the code: the effect that a function hands back is the machine's turn.
---     adds, reads, throughs, lowers      one set for each kind of step
---     gives, dispatches                  put, name and code; the dispatch
+--     adds, reads, throughs, lowers                   one set for each: add; read; write, relabel and exec; lower
+--     put-is, name-is, code-is, new-is, start-is      the others
+--     as-told                                         a step that is told by its bytes
 -- Assumes nothing.
 use mathlib.Core.Path.{_≡_, refl, sym, ap, _∙_}
 use mathlib.Core.Bool.{Bool, true, false}
