@@ -1,121 +1,19 @@
 -- `play` meets its contract. The list of the spec has an answer for each need, in the order of the code; what is known at a step, and at an outsider's event,
--- is gathered once (`stepping`, `acting`), and each arm is a law of `Stepping` or `Acting` over it. Assumes nothing.
+-- is gathered in `Known`, and each arm is a law of `Stepping` or `Acting` over it. Assumes nothing.
+mod Known
 use mathlib.Core.Path.{refl}
 use mathlib.Core.List.{[], _∷_}
-use Prim.Native.Nat.{_-_}
-use lib.ListN.{length}
 use borrow.Author.Needs.{needs}
-use Rattle.tables.proofs.Saved.{JobsIn, jobs-start, jobs-narrow, jobs-room, jobs-on, jobs-end}
+use Rattle.tables.proofs.Saved.{jobs-start, jobs-narrow, jobs-room, jobs-on, jobs-end}
 use Rattle.interpreter.proofs.Opened.{open-listed}
-use Rattle.interpreter.proofs.Playing.{Playing, entry-fits, playing-start, playing-small, playing-sized, playing-begun, playing-end, playing-fit, playing-entry}
+use Rattle.interpreter.proofs.Playing.{entry-fits, playing-start, playing-small, playing-sized, playing-begun, playing-end, playing-fit, playing-entry}
 use Rattle.interpreter.proofs.Playing.{playing-few, playing-off, playing-fits, playing-falls, playing-step-falls, playing-past, playing-over, playing-none}
-use Rattle.interpreter.proofs.Stepping.{SomeStep, step-stands, step-creates, step-gives, step-changes, step-lowers, step-launches, step-waits, step-room}
+use Rattle.interpreter.proofs.Stepping.{step-stands, step-creates, step-gives, step-changes, step-lowers, step-launches, step-waits, step-room}
 use Rattle.interpreter.proofs.Stepping.{step-free, step-give, step-lower, step-store, step-create, step-launch}
-use Rattle.interpreter.proofs.Acting.{SomeAct, acting-blocked, acting-give, acting-lower, acting-store, acting-room, acting-create, acting-free, acting-launch}
+use Rattle.interpreter.proofs.Acting.{acting-blocked, acting-give, acting-lower, acting-store, acting-room, acting-create, acting-free, acting-launch}
+use Rattle.interpreter.proofs.play.Proof.Known.{Inv-loop, μ-loop, Inv-loop2, μ-loop2, stepping, acting}
 use Rattle.interpreter.proofs.play.Statement.{statement}
 use Rattle.interpreter.proofs.play.Tie as tie
-
-abbrev Inv-loop : tie.InvT-loop
-Inv-loop book c shapes offsets starts list cells jobs answers₀ held₀ begun₀ n₀ m₀ o₀ at₀ answers held begun n m o at =
-    Playing book c shapes offsets starts list cells jobs answers₀ answers held n begun m o at
-
-abbrev μ-loop : tie.MeasureT-loop
-μ-loop book c shapes offsets starts list cells jobs answers₀ held₀ begun₀ n₀ m₀ o₀ at₀ answers held begun n m o at =
-    length list - o
-
-abbrev Inv-loop2 : tie.InvT-loop2
-Inv-loop2 book shapes offsets starts list cells jobs₀ answers begun n m o at y₀ jobs y = JobsIn begun m jobs y
-
-abbrev μ-loop2 : tie.MeasureT-loop2
-μ-loop2 book shapes offsets starts list cells jobs₀ answers begun n m o at y₀ jobs y = m - y
-
--- what is known where a step's cell was looked up
-abbrev Looked : Type 0
-Looked = tie.After-cell Inv-loop μ-loop Inv-loop2 μ-loop2
-
-abbrev stepping : Looked → SomeStep
-stepping p =
-    let turn = p .before .before .before .before .before .before .before in
-    let begun = turn .before .before .before .before in
-    record {
-      b = _;
-      c = _;
-      shapes = _;
-      offsets = _;
-      starts = _;
-      list = _;
-      room-cells = _;
-      room-jobs = _;
-      before = _;
-      now = _;
-      cells = _;
-      n = _;
-      jobs = _;
-      m = _;
-      o = _;
-      at = _;
-      i = _;
-      d = _;
-      z = _;
-      u = _;
-      t = _;
-      q = _;
-      known = record {
-        w = begun .before .before .before .loop .inv;
-        h = begun .before .before .loop-test .taken;
-        here = begun .if1 .taken;
-        ei = turn .before .before .before .byte .ensures;
-        r = turn .before .before .if2 .taken;
-        ez = refl;
-        eu = turn .before .step-end .ensures;
-        un = turn .if3 .left;
-        et = p .before .before .before .target-of .ensures;
-        eq = p .before .clamp .ensures .0;
-      };
-    }
-
--- what is known where an outsider's cell was looked up
-abbrev Aimed : Type 0
-Aimed = tie.After-cell2 Inv-loop μ-loop Inv-loop2 μ-loop2
-
-abbrev acting : Aimed → SomeAct
-acting p =
-    let such = p .before .before .before in
-    let begun = such .before .before .before .before in
-    record {
-      b = _;
-      c = _;
-      shapes = _;
-      offsets = _;
-      starts = _;
-      list = _;
-      room-cells = _;
-      room-jobs = _;
-      before = _;
-      now = _;
-      cells = _;
-      n = _;
-      jobs = _;
-      m = _;
-      o = _;
-      at = _;
-      p = _;
-      e = _;
-      f = _;
-      k = _;
-      q = _;
-      known = record {
-        w = begun .before .before .before .loop .inv;
-        h = begun .before .before .loop-test .taken;
-        ep = such .before .before .next-event .ensures;
-        here = begun .if1 .left;
-        ee = such .before .before .before .event-at .ensures;
-        ef = such .before .is-such .ensures;
-        t = such .if8 .taken;
-        ek = p .before .before .aimed-at .ensures;
-        eq = p .before .clamp2 .ensures .0;
-      };
-    }
 
 pub play-spec : {M : Type 1} → statement M
 play-spec =
