@@ -17,7 +17,8 @@ label n = record { 0 = n }
 abbrev pub trust : ℕ → Trust
 trust n = record { 0 = n }
 
--- "The lower of two labels is read from a table of 256 entries, row times 16 plus column."
+-- 01: "The lower of two labels is read from a table of 256 entries, row times 16 plus column." 02, Five: "The 256-entry table for the
+-- lower of two labels goes. A comparison gives the same label for every pair, and nobody above it should see a difference."
 unfoldable pub lower : Label → Label → Label
 lower a b = label (min (a .0) (b .0))
 

@@ -1,7 +1,5 @@
 // Labels and trust. Document 001 has two kinds of label: the dynamic label of a cell or a job, and the static label of a cell's
 // content, which the request calls its trust. They are types of their own, and only the functions here compare one with the other.
-mod table;
-
 ghost use mathlib.Core.Path.{_≡_};
 ghost use Rattle.labels.specs.Labels.{lower, reaches, isAbove, isMet, isHigh, covers, normal, capped};
 
@@ -16,24 +14,10 @@ impl Label {
     pub const TOP: Label = Label(15);
 
     // The lower of two labels. No label is above 15; the contract holds of any two bytes, so that no caller has to show what it holds.
-    // Of two that are equal the table need not be asked.
     pub fn lower_of(self, other: Label) -> Label
         ensures { λ r. ⌜ r ≡ lower self other ⌝ }
     {
-        let row = self.0;
-        let column = other.0;
-        if row == column {
-            return self;
-        }
-        if row <= 15 {
-            if column <= 15 {
-                let at = row as usize * 16 + column as usize;
-                let lower = table::LOWER[at];
-                return Label(lower);
-            }
-            return self;
-        }
-        if column < row {
+        if other.0 < self.0 {
             return other;
         }
         self
