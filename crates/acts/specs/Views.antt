@@ -28,7 +28,7 @@ use Rattle.machine.specs.Acts.{blocked, keep, store, create, launch, zeroWith, 
 use Rattle.machine.specs.Acts as Acts
 use Rattle.machine.specs.Steps.{turn, moved, gets}
 use Rattle.machine.specs.Steps as Steps
-use Rattle.machine.specs.Events.{done, stopped}
+use Rattle.machine.specs.Events.{tableSize, done, stopped}
 use Rattle.acts.specs.declared.Stored.{Stored}
 use Rattle.acts.specs.declared.Cell.{Cell}
 use Rattle.acts.specs.declared.Job.{Job}
@@ -111,9 +111,9 @@ kept j g (launch i) = g
 abbrev pub settled : States.Job Label → Steps.Turn Label → Steps.Turn Label
 settled j t = record { job = kept j (t .job) (t .effect); effect = t .effect }
 
--- a number in a table of 64
+-- a number in a table
 abbrev pub clamped : ℕ → ℕ
-clamped k = if ltb k 64 then k else 0
+clamped k = if ltb k tableSize then k else 0
 
 -- the sorts of effects, by the number of each in the enum
 abbrev pub giveSort : ℕ

@@ -4,7 +4,9 @@ use crate::Job;
 use crate::Near;
 use crate::Stored;
 use crate::registers;
+use book::value_kind;
 use labels::Label;
+use machine::answer;
 ghost use mathlib.Core.Path.{_≡_};
 ghost use lib.Dec.{ltb};
 ghost use Rattle.labels.specs.Labels.{reaches};
@@ -83,7 +85,7 @@ pub fn exec_cell(l: Label, h: Label, near: Near, k: u32) -> Effect
         return Effect::Blocked;
     }
     let content = registers::content_of(cell);
-    if content.kind < 2 {
+    if content.kind < value_kind::CODE {
         return Effect::Blocked;
     }
     if Job::TABLE_SIZE <= near.jobs {
@@ -100,11 +102,11 @@ pub fn answer_of(x: Effect) -> u8
     ensures { λ r. ⌜ r ≡ answerOf x ⌝ }
 {
     match x {
-        Effect::Blocked => 1,
-        Effect::Give(_, _) => 0,
-        Effect::Lower(_, _) => 0,
-        Effect::Store(_) => 0,
-        Effect::Create(_, _) => 0,
-        Effect::Launch(_, _, _) => 0,
+        Effect::Blocked => answer::BLOCKED,
+        Effect::Give(_, _) => answer::DONE,
+        Effect::Lower(_, _) => answer::DONE,
+        Effect::Store(_) => answer::DONE,
+        Effect::Create(_, _) => answer::DONE,
+        Effect::Launch(_, _, _) => answer::DONE,
     }
 }

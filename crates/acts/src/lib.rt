@@ -52,12 +52,21 @@ pub struct Job {
     pub source: Label,
 }
 
-impl Job {
-    // The label of declared values' histories.
-    pub const TOP_LABEL: u8 = 15;
+impl Cell {
+    // The bytes of a cell in the table of cells, and those of the table.
+    pub const BYTES: usize = 9;
 
+    pub const TABLE_BYTES: usize = 576;
+}
+
+impl Job {
     // How many cells, and how many jobs, a run may have.
     pub const TABLE_SIZE: usize = 64;
+
+    // The bytes of a job in the table of jobs, and those of the table.
+    pub const BYTES: usize = 52;
+
+    pub const TABLE_BYTES: usize = 3328;
 
     // A job at the start of its block, which stands at an offset of the book.
     pub fn fresh(block: u32, at: usize, label: Label, source: Label) -> Job

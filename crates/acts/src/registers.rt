@@ -2,6 +2,7 @@
 use crate::Cell;
 use crate::Job;
 use crate::Stored;
+use book::value_kind;
 use labels::Label;
 ghost use mathlib.Core.Path.{_≡_};
 ghost use Prim.Native.Nat.{_<_, _≤_};
@@ -18,7 +19,7 @@ pub fn zero_with(h: Label) -> Stored
 {
     Stored {
         number: 0,
-        kind: 0,
+        kind: value_kind::PLAIN,
         source: h,
     }
 }
@@ -75,10 +76,10 @@ pub fn acted(h: Label, v: Stored) -> Stored
 pub fn kind_of(v: Stored) -> u8
     ensures { λ r. ⌜ r ≡ kindOf (valueIn v) ⌝ }
 {
-    if v.kind < 2 {
+    if v.kind < value_kind::CODE {
         return v.kind;
     }
-    2
+    value_kind::CODE
 }
 
 // The step is done, and the next one is at an offset of the book.
@@ -132,7 +133,7 @@ pub fn names(j: Job, next: usize, r: u8, k: usize) -> Job
         r,
         Stored {
             number: k as u32,
-            kind: 1,
+            kind: value_kind::CELL,
             source: source,
         },
     )

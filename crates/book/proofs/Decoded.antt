@@ -10,10 +10,7 @@ use native.Mathlib.Omega.{arith}
 use lib.Dec.{eqb, ltb}
 use lib.ListN.{length, replicate}
 use borrow.Author.Tests.{eq-eqb, ne-eqb, lt-ltb, le-ltb, ltb-true, eqb-true}
-use mir.Val.{Fits}
-use mir.Syntax.{w8}
 use Rattle.labels.specs.Labels.{label, trust}
-use Rattle.labels.proofs.Tables.{at}
 use Rattle.book.specs.declared.Value.{Value}
 use Rattle.book.specs.declared.Value.the-variants.{Plain, CellName, CodeName}
 use Rattle.book.specs.declared.Declared.{Declared}
@@ -27,7 +24,7 @@ use Rattle.book.specs.Kinds.{span, group}
 use Rattle.book.specs.Records.{byteAt, numberAt, next, cut, inGroup}
 use Rattle.book.specs.Book.{shapeAt, valueOf, declaredAt, stepAt}
 use Rattle.book.specs.Stretch.{stands, stepFound, stepEnd, cellFound}
-use Rattle.book.proofs.Groups.{is-step}
+use Rattle.book.proofs.Groups.{is-step, group-span}
 use Rattle.book.proofs.Spans.{cut-body, uncut, uncut-span, uncut-inside}
 
 module _ (s : List ℕ) (o : ℕ) where
@@ -133,18 +130,6 @@ module _ (s : List ℕ) (o x : ℕ) (ex : x ≡ byteAt s (o + 1)) where
 
 pub ruleset steps = (is-put, is-name, is-code, is-add, is-new, is-read, is-write, is-relabel, is-lower, is-start, is-exec)
 
--- a kind of a group has a span
-grouped : ℕ → ℕ → Bool
-grouped k x = eqb (group k) 0 || ltb 0 (span k)
-
-positive : (x g : ℕ) → x ≡ g → 0 < g → eqb x 0 ≡ false
-positive x g e l = ne-eqb x 0 (λ q. omega arith)
-
-pub group-span : (k g : ℕ) → k < 256 → group k ≡ g → 0 < g → span k ≡ 0 → ⊥
-unfolding grouped group both span
-group-span k g h e l z =
-    rw (positive (group k) g e l, z) at (at grouped (replicate 256 0) tt k h)
-
 -- whether a whole record of group g stands at o; d is the group that was found there, p the offset past the record
 module _ (s : List ℕ) (g o : ℕ) where
   stands-past : length s ≤ o → stands s g o ≡ false
@@ -161,10 +146,10 @@ module _ (s : List ℕ) (g o : ℕ) where
       unfolding both
       stands-short l = simp (lt-ltb _ _ h, ← ed, eq-eqb _ _ e, cut-body span s o (omega arith))
 
-      stands-whole : byteAt s o < 256 → 0 < g → p ≤ length s → stands s g o ≡ true
+      stands-whole : 0 < g → p ≤ length s → stands s g o ≡ true
       unfolding both
-      stands-whole b n l =
-          simp (lt-ltb _ _ h, ← ed, eq-eqb _ _ e, uncut span s o (group-span (byteAt s o) g b (sym ed ∙ e) n) (omega arith))
+      stands-whole n l =
+          simp (lt-ltb _ _ h, ← ed, eq-eqb _ _ e, uncut span s o (group-span (byteAt s o) g (sym ed ∙ e) n) (omega arith))
 
 -- the offset past what stands is not 0
 stood-span : (s : List ℕ) (o : ℕ) → stands s 5 o ≡ true → 0 < next s o
@@ -206,14 +191,14 @@ module _ (s : List ℕ) (o : ℕ) where
       pub cell-short : d ≡ 3 → length s < p → NoCell ≡ cellFound s o
       cell-short e l = no-cell (stands-short s 3 o d h ed p e q l)
 
-      module _ (bytes : (i : ℕ) → Fits w8 (byteAt s i)) (l : p ≤ length s) where
+      module _ (l : p ≤ length s) where
         pub end-there : d ≡ 5 → p ≡ stepEnd s o
         unfolding stepEnd
-        end-there e = simp (stands-whole s 5 o d h ed p e q (bytes o .fits) (omega arith) l, q)
+        end-there e = simp (stands-whole s 5 o d h ed p e q (omega arith) l, q)
 
         pub cell-there : (x : Declared) → d ≡ 3 → x ≡ declaredAt s o → CellThere x ≡ cellFound s o
         unfolding cellFound
-        cell-there x e ex = simp (stands-whole s 3 o d h ed p e q (bytes o .fits) (omega arith) l, ex)
+        cell-there x e ex = simp (stands-whole s 3 o d h ed p e q (omega arith) l, ex)
 
 -- a step stands where its end is not 0
 module _ (s : List ℕ) (o e : ℕ) (q : e ≡ stepEnd s o) where

@@ -1,8 +1,9 @@
 pub mod Tests
 pub mod Lists
 pub mod Every
-pub mod Between
+pub mod Computed
 pub mod Groups
+pub mod Layouts
 pub mod Spans
 pub mod Records
 pub mod Steps

@@ -26,7 +26,7 @@ use Rattle.book.specs.Records.{byteAt, next, recordsFrom}
 use Rattle.book.specs.Book.{shapesOf, cellsOf, blocksOf, shapeAt, declaredAt, stepAt, blockAt, parse}
 use Rattle.book.specs.Refusals.{valueNamed, cellNamed, stepNamed, dangling, dangles, hasCellShape, nameFault}
 use Rattle.book.specs.Outline.{shapeIn, shapesTable, outlineOf}
-use Rattle.book.specs.Asked.{Whole, Outlined, cellKind}
+use Rattle.book.specs.Asked.{Whole, Outlined, isCellShapeIn}
 use Rattle.book.proofs.ShapeTable.{shape-get}
 use Rattle.book.proofs.Sweep.{sweep-end, sweep-bad, sweep-on}
 
@@ -131,7 +131,7 @@ pub ruleset danglings = (dangle-shape, dangle-cell, dangle-step, dangle-none)
 
 -- the loop through the book
 module _ (s : List ℕ) (t : Outline) (u : Outlined s t) where
-  same-kinds : (i : ℕ) → cellKind (t .shape) i ≡ hasCellShape (parse s) i
+  same-kinds : (i : ℕ) → isCellShapeIn (t .shape) i ≡ hasCellShape (parse s) i
   unfolding outlineOf parse
   same-kinds i =
       ap (λ (x : Shape). eqb (x .kind) 18)
@@ -139,12 +139,12 @@ module _ (s : List ℕ) (t : Outline) (u : Outlined s t) where
       ∙ shape-get (map (shapeAt s) (shapesOf s)) (128 - length (shapesTable (map (shapeAt s) (shapesOf s)))) i)
 
   pub name-start : (shapes : List ℕ) (cells blocks : ℕ) → shapes ≡ t .shape → cells ≡ t .counts .cells → blocks ≡ t .counts .blocks
-      → dangles (cellKind shapes) cells blocks s 0 (recordsFrom s 0) ≡ nameFault s
+      → dangles (isCellShapeIn shapes) cells blocks s 0 (recordsFrom s 0) ≡ nameFault s
   unfolding nameFault outlineOf parse
   name-start shapes cells blocks es ec eb =
       let x : cells ≡ length (map (declaredAt s) (cellsOf s)) = ec ∙ ap (λ (t : Outline). t .counts .cells) (u .is) ∙ sym (length-map (cellsOf s) (declaredAt s)) in
       let y : blocks ≡ length (map (blockAt s) (blocksOf s)) = eb ∙ ap (λ (t : Outline). t .counts .blocks) (u .is) ∙ sym (length-map (blocksOf s) (blockAt s)) in
-      let z : cellKind (t .shape) ≡ hasCellShape (parse s) = fun-ext same-kinds in
+      let z : isCellShapeIn (t .shape) ≡ hasCellShape (parse s) = fun-ext same-kinds in
       rw (es, x, y, z) refl
 
 module _ (f : ℕ → Bool) (cells blocks : ℕ) (s : List ℕ) (o n : ℕ) (z : Fault) (inv : dangles f cells blocks s n (recordsFrom s o) ≡ z) where

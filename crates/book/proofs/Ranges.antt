@@ -7,14 +7,14 @@ use mathlib.Core.List.{List, [], _∷_}
 use Prim.Native.Nat.{ℕ, _+_, _≤_, _<_}
 use native.Mathlib.Omega.{arith}
 use lib.Dec.{leb, ltb, T}
-use lib.ListN.{getD, replicate}
+use lib.ListN.{getD}
 use borrow.Author.Tests.{lt-ltb, le-ltb, leb-true}
-use Rattle.labels.proofs.Tables.{at}
 use Rattle.book.specs.Control.{both, either}
 use Rattle.book.specs.Kinds.{limits}
 use Rattle.book.specs.Records.{byteAt}
 use Rattle.book.specs.Refusals.{above, outOfRange}
-use Rattle.book.specs.Asked.{limit}
+use Rattle.book.specs.Asked.{limit, Limited}
+use Rattle.book.proofs.Computed.{at}
 use Rattle.book.proofs.Tests.{both-left, both-right, either-false}
 
 -- every limit is at least 255
@@ -29,16 +29,13 @@ loose (a ∷ []) = true
 loose (a ∷ b ∷ []) = true
 loose (a ∷ b ∷ c ∷ ls) = free ls
 
-test : ℕ → ℕ → Bool
-test k x = loose (limits k)
-
 holds : (b : Bool) → T b → b ≡ true
 holds true t = refl
 holds false t = absurd t
 
 all-loose : (k : ℕ) → k < 256 → loose (limits k) ≡ true
-unfolding test loose free both limits
-all-loose k h = holds (loose (limits k)) (at test (replicate 256 0) tt k h)
+unfolding loose free both limits
+all-loose k h = holds (loose (limits k)) (at (λ k. loose (limits k)) 256 tt k h)
 
 module _ (s : List ℕ) (bytes : (i : ℕ) → byteAt s i < 256) where
   never : (l i : ℕ) → 255 ≤ l → ltb l (byteAt s i) ≡ false
@@ -73,16 +70,16 @@ module _ (s : List ℕ) (bytes : (i : ℕ) → byteAt s i < 256) where
         simp (h, k) at (three (limits (byteAt s o)) (o + 1) (all-loose (byteAt s o) (bytes o)))
 
     -- a, b, c are the limits, x, y, z the fields
-    module _ (a x : ℕ) (ea : a ≡ limit (byteAt s o) 0) (ex : x ≡ byteAt s (o + 1)) where
+    module _ (a b c x : ℕ) (l : Limited (byteAt s o) a b c) (ex : x ≡ byteAt s (o + 1)) where
       pub first-above : a < x → true ≡ outOfRange s o
       unfolding either
-      first-above h = simp (limited, ← ea, ← ex, lt-ltb _ _ h)
+      first-above h = simp (limited, ← l .0, ← ex, lt-ltb _ _ h)
 
-      module _ (b y : ℕ) (eb : b ≡ limit (byteAt s o) 1) (ey : y ≡ byteAt s (o + 2)) (n : x ≤ a) where
+      module _ (y : ℕ) (ey : y ≡ byteAt s (o + 2)) (n : x ≤ a) where
         pub second-above : b < y → true ≡ outOfRange s o
         unfolding either
-        second-above h = simp (limited, ← ea, ← ex, ← eb, ← ey, le-ltb _ _ n, lt-ltb _ _ h)
+        second-above h = simp (limited, ← l .0, ← ex, ← l .1, ← ey, le-ltb _ _ n, lt-ltb _ _ h)
 
-        pub third-above : (c z : ℕ) → c ≡ limit (byteAt s o) 2 → z ≡ byteAt s (o + 3) → y ≤ b → ltb c z ≡ outOfRange s o
+        pub third-above : (z : ℕ) → z ≡ byteAt s (o + 3) → y ≤ b → ltb c z ≡ outOfRange s o
         unfolding either
-        third-above c z ec ez h = simp (limited, ← ea, ← ex, ← eb, ← ey, ← ec, ← ez, le-ltb _ _ n, le-ltb _ _ h)
+        third-above z ez h = simp (limited, ← l .0, ← ex, ← l .1, ← ey, ← l .2, ← ez, le-ltb _ _ n, le-ltb _ _ h)

@@ -1,5 +1,4 @@
 -- Laws of refusals 2 to 5 in one pass: each record that passes is whole, in order, not one too many, and in range.
---     fixed         what a kind fixes
 --     fits, unfit   a record that refusals 2 and 5 do not hold of
 --     Screened      what every stage gives from an offset on is what it gives of the book
 --     screens       one set: before the first record, past a record, at the end
@@ -13,34 +12,15 @@ use lib.Dec.{eqb}
 use lib.ListN.{length}
 use borrow.Author.Tests.{eqb-true, le-ltb}
 use Rattle.book.specs.declared.Tally.{Tally}
-use Rattle.book.specs.Control.{both, first}
+use Rattle.book.specs.Control.{first}
 use Rattle.book.specs.Kinds.{span, group}
 use Rattle.book.specs.Records.{byteAt, cut, recordsFrom}
 use Rattle.book.specs.Refusals.{cutFault, inOrder, misplaced, orderFault, none, counted, tooMany, beyond, countFault, outOfRange, rangeFault}
-use Rattle.book.specs.Asked.{Clear, Fixed, Fit, limit}
-use Rattle.book.proofs.Tests.{both-left, both-right}
+use Rattle.book.specs.Asked.{Clear, Fixed, Fit}
 use Rattle.book.proofs.Spans.{uncut, uncut-inside, fault-more}
 use Rattle.book.proofs.Sweep.{sweep-past}
 use Rattle.book.proofs.Stages.{cut-start, cut-end, order-start, order-end, count-start, none-few, count-end, range-start, range-end}
 use Rattle.book.proofs.Ranges.{third-above}
-
--- what a kind fixes, computed
-abbrev pub fixes : ℕ → ℕ → ℕ → ℕ → ℕ → Bool
-fixes j w a b c = both (eqb w (span j)) (both (eqb a (limit j 0)) (both (eqb b (limit j 1)) (eqb c (limit j 2))))
-
-pub fixed : (k j w a b c : ℕ) → k ≡ j → fixes j w a b c ≡ true → Fixed k w a b c
-fixed k j w a b c e t = rw e (go t)
-  where
-    go : fixes j w a b c ≡ true → Fixed j w a b c
-    go t =
-        let u = both-right (eqb w (span j)) _ t in
-        let v = both-right (eqb a (limit j 0)) _ u in
-        record {
-          bytes = eqb-true _ _ (both-left _ _ t);
-          one = eqb-true _ _ (both-left _ _ u);
-          two = eqb-true _ _ (both-left _ _ v);
-          three = eqb-true _ _ (both-right (eqb b (limit j 1)) _ v);
-        }
 
 -- a record that has room for what its kind fixes, and no field above its largest value
 pub fits : (s : List ℕ) (bytes : (i : ℕ) → byteAt s i < 256) (o w a b c x y z : ℕ) → Fixed (byteAt s o) w a b c → o < length s → w ≤ length s - o
@@ -50,7 +30,7 @@ fits s bytes o w a b c x y z k h l ex ey ez la lb lc d =
     record {
       bytes = k .bytes;
       uncut = uncut span s o (λ e. d (k .bytes ∙ e)) (rw (k .bytes) at (room w l));
-      narrow = sym (third-above s bytes o a x (k .one) ex b y (k .two) ey la c z (k .three) ez lb) ∙ le-ltb _ _ lc;
+      narrow = sym (third-above s bytes o a b c x (k .limited) ex y ey la z ez lb) ∙ le-ltb _ _ lc;
     }
   where
     room : (v : ℕ) → v ≤ length s - o → o + v ≤ length s

@@ -3,17 +3,18 @@
 --     limit              the largest value of a field of a kind; 255 where any byte will do
 --     Small              a book that refusals 1, 2 and 4 do not hold of
 --     Clear              a book that refusals 2 to 5 do not hold of
---     Fixed, Fit         what a kind fixes; a record that refusals 2 and 5 do not hold of
+--     Limited, Fixed     the limits of a kind; all that it fixes
+--     Fit                a record that refusals 2 and 5 do not hold of
 --     Outlined           the outline of such a book
 --     Blank, drawn       an outline's tables: zero; and what they make
---     cellKind           by the table of shapes, whether a shape is a cell shape
+--     isCellShapeIn           by the table of shapes, whether a shape is a cell shape
 --     skipped            where the steps from an offset on end, and how many they are
 --     Sound              contents are lower-numbered
 --     Listed, Laid       offsets of declared cells; where the blocks' stretches are
 -- Assumes nothing.
 use mathlib.Core.Path.{_≡_}
 use mathlib.Core.List.{List, map}
-use Prim.Native.Nat.{ℕ, _≤_, _<_}
+use Prim.Native.Nat.{ℕ, _*_, _≤_, _<_}
 use mathlib.Core.Bool.{Bool, false}
 use lib.Dec.{eqb}
 use lib.ListN.{length, getD, replicate}
@@ -24,6 +25,7 @@ use Rattle.book.specs.declared.Fault.the-variants.{Nowhere}
 use Rattle.book.specs.declared.Counts.{Counts}
 use Rattle.book.specs.declared.Outline.{Outline}
 use Rattle.book.specs.declared.Skipped.{Skipped}
+use Rattle.book.specs.Numbers.{cellShapeKind, anyByte, maxShapes, maxCells, maxBlocks, maxBookBytes}
 use Rattle.book.specs.Control.{first}
 use Rattle.book.specs.Kinds.{span, limits}
 use Rattle.book.specs.Records.{byteAt, cut, recordsFrom}
@@ -36,14 +38,14 @@ abbrev pub Whole : List ℕ → ℕ → Type 0
 Whole s o = first (cut s) (recordsFrom s o) ≡ Nowhere
 
 abbrev pub limit : ℕ → ℕ → ℕ
-limit k i = getD (limits k) i 255
+limit k i = getD (limits k) i anyByte
 
 abbrev pub skipped : List ℕ → ℕ → Skipped
 skipped s o = record { at = stepsEnd s o; count = length (stepsFrom s o) }
 
 -- a book that refusals 1, 2 and 4 do not hold of
 pub record Small (s : List ℕ) : Type 0 where
-  pub short : length s ≤ 32768
+  pub short : length s ≤ maxBookBytes
   pub whole : Whole s 0
   pub few : countFault s ≡ Nowhere
 
@@ -54,12 +56,14 @@ pub record Clear (s : List ℕ) : Type 0 where
   pub few : countFault s ≡ Nowhere
   pub narrow : rangeFault s ≡ Nowhere
 
--- a kind's records have w bytes, and a, b and c are the largest values of their first three fields
+-- a, b and c are the largest values of the first three fields of a kind's records
+abbrev pub Limited : ℕ → ℕ → ℕ → ℕ → Type 0
+Limited k a b c = (a ≡ limit k 0) × (b ≡ limit k 1) × (c ≡ limit k 2)
+
+-- and they have w bytes
 pub record Fixed (k w a b c : ℕ) : Type 0 where
   pub bytes : w ≡ span k
-  pub one : a ≡ limit k 0
-  pub two : b ≡ limit k 1
-  pub three : c ≡ limit k 2
+  pub limited : Limited k a b c
 
 -- the record at o has w bytes, and refusals 2 and 5 do not hold of it
 pub record Fit (s : List ℕ) (o w : ℕ) : Type 0 where
@@ -68,8 +72,8 @@ pub record Fit (s : List ℕ) (o w : ℕ) : Type 0 where
   pub narrow : outOfRange s o ≡ false
 
 -- by the table of shapes, the shape of a number is a cell shape
-abbrev pub cellKind : List ℕ → ℕ → Bool
-cellKind table i = eqb (shapeIn table i .kind) 18
+abbrev pub isCellShapeIn : List ℕ → ℕ → Bool
+isCellShapeIn table i = eqb (shapeIn table i .kind) cellShapeKind
 
 -- the outline of such a book
 pub record Outlined (s : List ℕ) (t : Outline) : Type 0 where
@@ -78,12 +82,12 @@ pub record Outlined (s : List ℕ) (t : Outline) : Type 0 where
 
 -- an outline's tables before any record, and the outline that they make
 pub record Blank (shape cell shaped bound start size : List ℕ) : Type 0 where
-  pub shapes : shape ≡ replicate 128 0
-  pub cells : cell ≡ replicate 32 0
-  pub owners : shaped ≡ replicate 32 0
-  pub bounds : bound ≡ replicate 64 0
-  pub starts : start ≡ replicate 64 0
-  pub sizes : size ≡ replicate 64 0
+  pub shapes : shape ≡ replicate (4 * maxShapes) 0
+  pub cells : cell ≡ replicate maxCells 0
+  pub owners : shaped ≡ replicate maxCells 0
+  pub bounds : bound ≡ replicate maxBlocks 0
+  pub starts : start ≡ replicate maxBlocks 0
+  pub sizes : size ≡ replicate maxBlocks 0
 
 abbrev pub drawn : List ℕ → Counts → List ℕ → List ℕ → List ℕ → List ℕ → List ℕ → List ℕ → Outline
 drawn s n shape cell shaped bound start size =
@@ -91,7 +95,7 @@ drawn s n shape cell shaped bound start size =
 
 -- contents are lower-numbered: refusal 6
 pub record Sound (shape : ℕ → Shape) : Type 0 where
-  pub falls : (i : ℕ) → shape i .kind ≡ 18 → shape i .content < i
+  pub falls : (i : ℕ) → shape i .kind ≡ cellShapeKind → shape i .content < i
 
 -- at each of these offsets a declared cell stands
 pub record Listed (s os : List ℕ) : Type 0 where
@@ -99,7 +103,7 @@ pub record Listed (s os : List ℕ) : Type 0 where
 
 -- the bounds, starts and lengths of the blocks of a book that can be read
 pub record Laid (s bounds starts lengths : List ℕ) : Type 0 where
-  pub short : length s ≤ 32768
+  pub short : length s ≤ maxBookBytes
   pub whole : cutFault s ≡ Nowhere
   pub bound : bounds ≡ map (boundAt s) (blocksOf s)
   pub start : starts ≡ map startAt (blocksOf s)

@@ -14,6 +14,7 @@ use Rattle.book.specs.declared.Value.the-variants.{Plain, CellName, Code
 use Rattle.book.specs.declared.Declared.{Declared}
 use Rattle.book.specs.declared.Step.{Step}
 use Rattle.book.specs.declared.Step.the-variants.{Put, Name, Code, Add, New, Read, Write, Relabel, Lower, Start, Exec}
+use Rattle.book.specs.Numbers.{plainShapeKind, codeShapeKind, cellShapeKind, putKind, nameKind, codeKind, addKind, newKind, readKind, writeKind, relabelKind, lowerKind, startKind, shapeGroup, cellGroup, blockGroup, stepGroup, plainValue, cellValue}
 use Rattle.book.specs.Control.{if_then_else_, those, while}
 use Rattle.book.specs.Records.{byteAt, numberAt, records, recordsFrom, inGroup}
 
@@ -22,28 +23,28 @@ unfoldable pub groupOf : List ℕ → ℕ → List ℕ
 groupOf s g = those (inGroup s g) (records s)
 
 abbrev pub shapesOf : List ℕ → List ℕ
-shapesOf s = groupOf s 2
+shapesOf s = groupOf s shapeGroup
 
 abbrev pub cellsOf : List ℕ → List ℕ
-cellsOf s = groupOf s 3
+cellsOf s = groupOf s cellGroup
 
 abbrev pub blocksOf : List ℕ → List ℕ
-blocksOf s = groupOf s 4
+blocksOf s = groupOf s blockGroup
 
 -- the steps that stand from o on: "Its steps follow, perhaps none."
 unfoldable pub stepsFrom : List ℕ → ℕ → List ℕ
-stepsFrom s o = while (inGroup s 5) (recordsFrom s o)
+stepsFrom s o = while (inGroup s stepGroup) (recordsFrom s o)
 
 -- "16 plain shape, no body; 17 code shape: bound; 18 cell shape: content shape, trust"; what a kind does not have is 0
 unfoldable pub shapeAt : List ℕ → ℕ → Shape
 shapeAt s o =
-    if eqb (byteAt s o) 17 then record { kind = 17; bound = label (byteAt s (o + 1)); content = 0; trust = trust 0 }
-    else if eqb (byteAt s o) 18 then record { kind = 18; bound = label 0; content = byteAt s (o + 1); trust = trust (byteAt s (o + 2)) }
-    else record { kind = 16; bound = label 0; content = 0; trust = trust 0 }
+    if eqb (byteAt s o) codeShapeKind then record { kind = codeShapeKind; bound = label (byteAt s (o + 1)); content = 0; trust = trust 0 }
+    else if eqb (byteAt s o) cellShapeKind then record { kind = cellShapeKind; bound = label 0; content = byteAt s (o + 1); trust = trust (byteAt s (o + 2)) }
+    else record { kind = plainShapeKind; bound = label 0; content = 0; trust = trust 0 }
 
 -- "value kind (0 plain, 1 cell, 2 code), number (for kinds 1 and 2 the cell or block number)"
 unfoldable pub valueOf : ℕ → ℕ → Value
-valueOf k n = if eqb k 0 then Plain n else if eqb k 1 then CellName n else CodeName n
+valueOf k n = if eqb k plainValue then Plain n else if eqb k cellValue then CellName n else CodeName n
 
 -- "32 cell: shape, label, value kind, number"
 unfoldable pub declaredAt : List ℕ → ℕ → Declared
@@ -58,16 +59,16 @@ stepAt s o =
     let x = byteAt s (o + 1) in
     let y = byteAt s (o + 2) in
     let z = byteAt s (o + 3) in
-    if eqb k 64 then Put x (numberAt s (o + 2))
-    else if eqb k 65 then Name x y
-    else if eqb k 66 then Code x y
-    else if eqb k 67 then Add x y z
-    else if eqb k 68 then New x y z
-    else if eqb k 69 then Read x y
-    else if eqb k 70 then Write x y
-    else if eqb k 71 then Relabel x (label y)
-    else if eqb k 72 then Lower (label x)
-    else if eqb k 73 then Start x
+    if eqb k putKind then Put x (numberAt s (o + 2))
+    else if eqb k nameKind then Name x y
+    else if eqb k codeKind then Code x y
+    else if eqb k addKind then Add x y z
+    else if eqb k newKind then New x y z
+    else if eqb k readKind then Read x y
+    else if eqb k writeKind then Write x y
+    else if eqb k relabelKind then Relabel x (label y)
+    else if eqb k lowerKind then Lower (label x)
+    else if eqb k startKind then Start x
     else Exec x
 
 pub record Block : Type 0 where

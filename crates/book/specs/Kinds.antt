@@ -1,80 +1,62 @@
--- The kinds of record: 01, "The job book".
---     layouts           the fields of each kind, each by its largest value
---     span, limits      the bytes of a record of a kind, and its fields' largest values
---     group             the group of a kind
+-- The kinds of record: 01, "The job book". One table has all that a kind fixes.
+--     Layout, layouts                  the table: of each kind its group and its fields
+--     layoutOf                         the layout of a kind
+--     group, limits, span              its group, its fields' largest values, the bytes of its records
 -- Assumes nothing.
 use Prim.Native.Nat.{ℕ, suc}
 use mathlib.Core.Bool.{true, false}
 use mathlib.Core.List.{List, [], _∷_}
 use lib.ListN.{length}
-use lib.Dec.{leb, eqb}
-use Rattle.book.specs.Control.{if_then_else_, both}
+use lib.Dec.{eqb}
+use Rattle.book.specs.Control.{if_then_else_}
+use Rattle.book.specs.Numbers.{cKind, plainShapeKind, codeShapeKind, cellShapeKind, cellKind, blockKind, putKind, nameKind, codeKind, addKind, newKind, readKind, writeKind, relabelKind, lowerKind, startKind, execKind}
+use Rattle.book.specs.Numbers.{noGroup, cGroup, shapeGroup, cellGroup, blockGroup, stepGroup}
+use Rattle.book.specs.Numbers.{maxLabel, maxC, maxRegister, maxValueKind, anyByte, number}
 
--- "A label, bound or trust is above 15, C above 14, a register above 7, or a value kind above 2": refusal 5.
-abbrev pub labelled : ℕ
-labelled = 15
+pub record Layout : Type 0 where
+  pub kind : ℕ
+  pub group : ℕ
+  pub limits : List ℕ
 
-abbrev pub compromised : ℕ
-compromised = 14
+abbrev pub layout : ℕ → ℕ → List ℕ → Layout
+layout k g ls = record { kind = k; group = g; limits = ls }
 
-abbrev pub register : ℕ
-register = 7
-
-abbrev pub valueKind : ℕ
-valueKind = 2
-
--- any byte
-abbrev pub any : ℕ
-any = 255
-
--- "a number is 4 bytes"
-abbrev pub number : List ℕ
-number = any ∷ any ∷ any ∷ any ∷ []
-
--- "Kinds in decimal": a kind, and its fields in their order.
-abbrev pub layouts : List (ℕ × List ℕ)
+-- each kind, its group, and its fields in their order
+abbrev pub layouts : List Layout
 layouts =
-    (1, compromised ∷ [])
-    ∷ (16, [])
-    ∷ (17, labelled ∷ [])
-    ∷ (18, any ∷ labelled ∷ [])
-    ∷ (32, any ∷ labelled ∷ valueKind ∷ number)
-    ∷ (48, labelled ∷ [])
-    ∷ (64, register ∷ number)
-    ∷ (65, register ∷ any ∷ [])
-    ∷ (66, register ∷ any ∷ [])
-    ∷ (67, register ∷ register ∷ register ∷ [])
-    ∷ (68, register ∷ any ∷ register ∷ [])
-    ∷ (69, register ∷ register ∷ [])
-    ∷ (70, register ∷ register ∷ [])
-    ∷ (71, register ∷ labelled ∷ [])
-    ∷ (72, labelled ∷ [])
-    ∷ (73, any ∷ [])
-    ∷ (74, register ∷ [])
+    layout cKind cGroup (maxC ∷ [])
+    ∷ layout plainShapeKind shapeGroup []
+    ∷ layout codeShapeKind shapeGroup (maxLabel ∷ [])
+    ∷ layout cellShapeKind shapeGroup (anyByte ∷ maxLabel ∷ [])
+    ∷ layout cellKind cellGroup (anyByte ∷ maxLabel ∷ maxValueKind ∷ number)
+    ∷ layout blockKind blockGroup (maxLabel ∷ [])
+    ∷ layout putKind stepGroup (maxRegister ∷ number)
+    ∷ layout nameKind stepGroup (maxRegister ∷ anyByte ∷ [])
+    ∷ layout codeKind stepGroup (maxRegister ∷ anyByte ∷ [])
+    ∷ layout addKind stepGroup (maxRegister ∷ maxRegister ∷ maxRegister ∷ [])
+    ∷ layout newKind stepGroup (maxRegister ∷ anyByte ∷ maxRegister ∷ [])
+    ∷ layout readKind stepGroup (maxRegister ∷ maxRegister ∷ [])
+    ∷ layout writeKind stepGroup (maxRegister ∷ maxRegister ∷ [])
+    ∷ layout relabelKind stepGroup (maxRegister ∷ maxLabel ∷ [])
+    ∷ layout lowerKind stepGroup (maxLabel ∷ [])
+    ∷ layout startKind stepGroup (anyByte ∷ [])
+    ∷ layout execKind stepGroup (maxRegister ∷ [])
     ∷ []
 
--- "A record is one byte of kind, then a body whose length the kind fixes." 0 for a kind that is none.
-abbrev pub spanIn : List (ℕ × List ℕ) → ℕ → ℕ
-spanIn [] k = 0
-spanIn (l ∷ ls) k = elim (eqb (l .0) k) [ true ↦ suc (length (l .1)) | false ↦ spanIn ls k ]
+-- the layout of a kind; what is no kind has no fields
+abbrev pub layoutIn : List Layout → ℕ → Layout
+layoutIn [] k = layout k noGroup []
+layoutIn (l ∷ ls) k = elim (eqb (l .kind) k) [ true ↦ l | false ↦ layoutIn ls k ]
 
-unfoldable pub span : ℕ → ℕ
-span k = spanIn layouts k
+abbrev pub layoutOf : ℕ → Layout
+layoutOf k = layoutIn layouts k
 
--- the largest values of the fields of a kind
-abbrev pub limitsIn : List (ℕ × List ℕ) → ℕ → List ℕ
-limitsIn [] k = []
-limitsIn (l ∷ ls) k = elim (eqb (l .0) k) [ true ↦ l .1 | false ↦ limitsIn ls k ]
+unfoldable pub group : ℕ → ℕ
+group k = layoutOf k .group
 
 unfoldable pub limits : ℕ → List ℕ
-limits k = limitsIn layouts k
+limits k = layoutOf k .limits
 
--- "Groups stand in this order: C, shapes, cells, blocks": 1, 2, 3, 4; the steps are 5, and what is no kind 0
-unfoldable pub group : ℕ → ℕ
-group k =
-    if eqb k 1 then 1
-    else if both (leb 16 k) (leb k 18) then 2
-    else if eqb k 32 then 3
-    else if eqb k 48 then 4
-    else if both (leb 64 k) (leb k 74) then 5
-    else 0
+-- "A record is one byte of kind, then a body whose length the kind fixes." 0 for what is no kind.
+unfoldable pub span : ℕ → ℕ
+span k = if eqb (layoutOf k .group) noGroup then 0 else suc (length (layoutOf k .limits))

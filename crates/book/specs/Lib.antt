@@ -1,4 +1,5 @@
 pub mod Control
+pub mod Numbers
 pub mod Kinds
 pub mod Spans
 pub mod Records

@@ -14,6 +14,7 @@ use Rattle.book.specs.declared.Outline.{Outline}
 use Rattle.book.specs.declared.Refusal.{Refusal}
 use Rattle.book.specs.declared.Refusal.the-variants.{Passed, Refused}
 use Rattle.book.specs.declared.Reading.{Reading}
+use Rattle.book.specs.Numbers.{maxShapes, maxCells, maxBlocks}
 use Rattle.book.specs.Records.{byteAt, next}
 use Rattle.book.specs.Book.{shapesOf, cellsOf, blocksOf, stepsFrom, shapeAt}
 use Rattle.book.specs.Refusals.{unreadable}
@@ -70,12 +71,12 @@ outlineOf s =
       c = label (byteAt s 1);
       counts =
           record { shapes = length (shapesOf s); cells = length (cellsOf s); blocks = length (blocksOf s); steps = stepCount s (blocksOf s) };
-      shape = pad 128 0 (shapesTable (map (shapeAt s) (shapesOf s)));
-      cell = pad 32 0 (cellsOf s);
-      shaped = pad 32 0 (map (λ o. byteAt s (o + 1)) (cellsOf s));
-      bound = pad 64 0 (map (boundAt s) (blocksOf s));
-      start = pad 64 0 (map startAt (blocksOf s));
-      length = pad 64 0 (map (lengthAt s) (blocksOf s));
+      shape = pad (4 * maxShapes) 0 (shapesTable (map (shapeAt s) (shapesOf s)));
+      cell = pad maxCells 0 (cellsOf s);
+      shaped = pad maxCells 0 (map (λ o. byteAt s (o + 1)) (cellsOf s));
+      bound = pad maxBlocks 0 (map (boundAt s) (blocksOf s));
+      start = pad maxBlocks 0 (map startAt (blocksOf s));
+      length = pad maxBlocks 0 (map (lengthAt s) (blocksOf s));
     }
 
 abbrev pub noCounts : Counts
@@ -87,12 +88,12 @@ noOutline =
     record {
       c = label 0;
       counts = noCounts;
-      shape = replicate 128 0;
-      cell = replicate 32 0;
-      shaped = replicate 32 0;
-      bound = replicate 64 0;
-      start = replicate 64 0;
-      length = replicate 64 0;
+      shape = replicate (4 * maxShapes) 0;
+      cell = replicate maxCells 0;
+      shaped = replicate maxCells 0;
+      bound = replicate maxBlocks 0;
+      start = replicate maxBlocks 0;
+      length = replicate maxBlocks 0;
     }
 
 abbrev pub refusedReading : ℕ → ℕ → Reading

@@ -19,6 +19,7 @@ use Rattle.book.specs.declared.Value.the-variants.{Plain, CellName, Code
 use Rattle.book.specs.declared.Declared.{Declared}
 use Rattle.book.specs.declared.Step.{Step}
 use Rattle.book.specs.declared.Step.the-variants.{Put, Name, Code, Add, New, Read, Write, Relabel, Lower, Start, Exec}
+use Rattle.book.specs.Numbers.{cellShapeKind, noGroup, cGroup, shapeGroup, cellGroup, blockGroup, stepGroup, maxShapes, maxCells, maxBlocks, maxSteps, maxBookBytes}
 use Rattle.book.specs.Control.{if_then_else_, both, either, sweep, first}
 use Rattle.book.specs.Kinds.{limits, group}
 use Rattle.book.specs.Records.{byteAt, records, cut, inGroup}
@@ -28,18 +29,18 @@ use Rattle.book.specs.Book.{Book, parse, declaredAt, stepAt}
 unfoldable pub cutFault : List ℕ → Fault
 cutFault s = first (cut s) (records s)
 
--- 3: A record of group g may stand after one of group p; a step counts as of group 4 there, and p is 0 before the first record.
+-- 3: A record of group g may stand after one of group p; a step counts as of its block's group there, and p is none before the first record.
 -- "First record, once." "Groups stand in this order: C, shapes, cells, blocks. A step before the first block is out of order."
 unfoldable pub inOrder : ℕ → ℕ → Bool
-inOrder p g = if eqb p 0 then eqb g 1 else if eqb g 5 then eqb p 4 else both (ltb 1 g) (leb p g)
+inOrder p g = if eqb p noGroup then eqb g cGroup else if eqb g stepGroup then eqb p blockGroup else both (ltb cGroup g) (leb p g)
 
 -- "The first record is missing or not C, a record is out of order, or no block stands (place: the book's length, or 0 if it is empty)."
 unfoldable pub misplaced : List ℕ → ℕ → List ℕ → Fault
 misplaced s p os =
-    sweep (λ p o. not (inOrder p (group (byteAt s o)))) (λ p o. min (group (byteAt s o)) 4) (λ p. if eqb p 4 then Nowhere else At (length s)) p os
+    sweep (λ p o. not (inOrder p (group (byteAt s o)))) (λ p o. min (group (byteAt s o)) blockGroup) (λ p. if eqb p blockGroup then Nowhere else At (length s)) p os
 
 unfoldable pub orderFault : List ℕ → Fault
-orderFault s = misplaced s 0 (records s)
+orderFault s = misplaced s noGroup (records s)
 
 -- 4: how many shapes, cells and blocks stand so far, and how many steps in the block
 abbrev pub none : Tally
@@ -47,15 +48,15 @@ none = record { shapes = 0; cells = 0; blocks = 0; steps = 0 }
 
 unfoldable pub counted : Tally → ℕ → Tally
 counted n g =
-    if eqb g 2 then record { shapes = n .shapes + 1; cells = n .cells; blocks = n .blocks; steps = n .steps }
-    else if eqb g 3 then record { shapes = n .shapes; cells = n .cells + 1; blocks = n .blocks; steps = n .steps }
-    else if eqb g 4 then record { shapes = n .shapes; cells = n .cells; blocks = n .blocks + 1; steps = 0 }
-    else if eqb g 5 then record { shapes = n .shapes; cells = n .cells; blocks = n .blocks; steps = n .steps + 1 }
+    if eqb g shapeGroup then record { shapes = n .shapes + 1; cells = n .cells; blocks = n .blocks; steps = n .steps }
+    else if eqb g cellGroup then record { shapes = n .shapes; cells = n .cells + 1; blocks = n .blocks; steps = n .steps }
+    else if eqb g blockGroup then record { shapes = n .shapes; cells = n .cells; blocks = n .blocks + 1; steps = 0 }
+    else if eqb g stepGroup then record { shapes = n .shapes; cells = n .cells; blocks = n .blocks; steps = n .steps + 1 }
     else n
 
 -- "beyond 32 shapes, 32 cells, 64 blocks or 64 steps in a block"
 unfoldable pub tooMany : Tally → Bool
-tooMany n = either (ltb 32 (n .shapes)) (either (ltb 32 (n .cells)) (either (ltb 64 (n .blocks)) (ltb 64 (n .steps))))
+tooMany n = either (ltb maxShapes (n .shapes)) (either (ltb maxCells (n .cells)) (either (ltb maxBlocks (n .blocks)) (ltb maxSteps (n .steps))))
 
 unfoldable pub beyond : List ℕ → Tally → List ℕ → Fault
 beyond s n os =
@@ -103,20 +104,20 @@ module _ (isCellShape : ℕ → Bool) (cells blocks : ℕ) where
   -- the record at o, before which n shapes stand: "A content shape is not lower-numbered than its cell shape, .."
   unfoldable pub dangling : List ℕ → ℕ → ℕ → Bool
   dangling s n o =
-      if eqb (byteAt s o) 18 then leb n (byteAt s (o + 1))
-      else if inGroup s 3 o then not (cellNamed (declaredAt s o))
-      else if inGroup s 5 o then not (stepNamed (stepAt s o))
+      if eqb (byteAt s o) cellShapeKind then leb n (byteAt s (o + 1))
+      else if inGroup s cellGroup o then not (cellNamed (declaredAt s o))
+      else if inGroup s stepGroup o then not (stepNamed (stepAt s o))
       else false
 
   unfoldable pub dangles : List ℕ → ℕ → List ℕ → Fault
-  dangles s n os = sweep (dangling s) (λ n o. if inGroup s 2 o then n + 1 else n) (λ n. Nowhere) n os
+  dangles s n os = sweep (dangling s) (λ n o. if inGroup s shapeGroup o then n + 1 else n) (λ n. Nowhere) n os
 
 -- past the shapes: no shape
 abbrev pub noShape : Shape
 noShape = record { kind = 0; bound = label 0; content = 0; trust = trust 0 }
 
 abbrev pub hasCellShape : Book → ℕ → Bool
-hasCellShape K i = eqb (getD (K .shapes) i noShape .kind) 18
+hasCellShape K i = eqb (getD (K .shapes) i noShape .kind) cellShapeKind
 
 unfoldable pub nameFault : List ℕ → Fault
 nameFault s = let K = parse s in dangles (hasCellShape K) (length (K .cells)) (length (K .blocks)) s 0 (records s)
@@ -129,7 +130,7 @@ orRefuse n (At o) r = Refused n o
 -- 1: "The book is longer than 32,768 bytes." Place 0.
 unfoldable pub unreadable : List ℕ → Refusal
 unreadable s =
-    if ltb 32768 (length s) then Refused 1 0
+    if ltb maxBookBytes (length s) then Refused 1 0
     else orRefuse 2 (cutFault s)
     (orRefuse 3 (orderFault s)
     (orRefuse 4 (countFault s)

@@ -15,6 +15,7 @@ use Rattle.book.specs.declared.StepAt.{StepAt}
 use Rattle.book.specs.declared.StepAt.the-variants.{NoStep, StepThere}
 use Rattle.book.specs.declared.CellAt.{CellAt}
 use Rattle.book.specs.declared.CellAt.the-variants.{NoCell, CellThere}
+use Rattle.book.specs.Numbers.{cellGroup, stepGroup}
 use Rattle.book.specs.Control.{if_then_else_, both}
 use Rattle.book.specs.Records.{next, cut, inGroup}
 use Rattle.book.specs.Book.{blocksOf, stepAt, declaredAt}
@@ -43,11 +44,11 @@ abbrev pub stands : List ℕ → ℕ → ℕ → Bool
 stands s g o = both (ltb o (length s)) (both (inGroup s g o) (not (cut s o)))
 
 unfoldable pub stepFound : List ℕ → ℕ → StepAt
-stepFound s o = if stands s 5 o then StepThere (stepAt s o) (next s o) else NoStep
+stepFound s o = if stands s stepGroup o then StepThere (stepAt s o) (next s o) else NoStep
 
 -- the offset past it, 0 where none stands
 unfoldable pub stepEnd : List ℕ → ℕ → ℕ
-stepEnd s o = if stands s 5 o then next s o else 0
+stepEnd s o = if stands s stepGroup o then next s o else 0
 
 unfoldable pub cellFound : List ℕ → ℕ → CellAt
-cellFound s o = if stands s 3 o then CellThere (declaredAt s o) else NoCell
+cellFound s o = if stands s cellGroup o then CellThere (declaredAt s o) else NoCell

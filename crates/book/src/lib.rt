@@ -1,4 +1,9 @@
 // The words for what a job book says, and for what reading one gives.
+pub mod group;
+pub mod kind;
+pub mod limit;
+pub mod value_kind;
+
 use labels::Label;
 use labels::Trust;
 ghost use mathlib.Core.Path.{_≡_};

@@ -5,6 +5,9 @@ use book::Shape;
 use book::Step;
 use book::StepAt;
 use book::Value;
+use book::group;
+use book::kind;
+use book::value_kind;
 use labels::Label;
 use labels::Trust;
 ghost use mathlib.Core.Path.{_≡_};
@@ -23,24 +26,24 @@ pub fn decode_shape(s: &[u8], o: usize) -> Shape
     let k = s[o];
     let x = records::byte(s, o + 1);
     let y = records::byte(s, o + 2);
-    if k == 17 {
+    if k == kind::CODE_SHAPE {
         return Shape {
-            kind: 17,
+            kind: kind::CODE_SHAPE,
             bound: Label(x),
             content: 0,
             trust: Trust(0),
         };
     }
-    if k == 18 {
+    if k == kind::CELL_SHAPE {
         return Shape {
-            kind: 18,
+            kind: kind::CELL_SHAPE,
             bound: Label(0),
             content: x,
             trust: Trust(y),
         };
     }
     Shape {
-        kind: 16,
+        kind: kind::PLAIN_SHAPE,
         bound: Label(0),
         content: 0,
         trust: Trust(0),
@@ -68,10 +71,10 @@ pub fn shape_in(table: &[u8], i: u8) -> Shape
 pub fn value_of(kind: u8, number: u32) -> Value
     ensures { λ r. ⌜ r ≡ valueOf kind number ⌝ }
 {
-    if kind == 0 {
+    if kind == value_kind::PLAIN {
         return Value::Plain(number);
     }
-    if kind == 1 {
+    if kind == value_kind::CELL {
         return Value::CellName(number);
     }
     Value::CodeName(number)
@@ -104,16 +107,16 @@ pub fn decode_step(s: &[u8], o: usize) -> Step
     let y = records::byte(s, o + 2);
     let z = records::byte(s, o + 3);
     match k {
-        64 => Step::Put(x, records::number(s, o + 2)),
-        65 => Step::Name(x, y),
-        66 => Step::Code(x, y),
-        67 => Step::Add(x, y, z),
-        68 => Step::New(x, y, z),
-        69 => Step::Read(x, y),
-        70 => Step::Write(x, y),
-        71 => Step::Relabel(x, Label(y)),
-        72 => Step::Lower(Label(x)),
-        73 => Step::Start(x),
+        kind::PUT => Step::Put(x, records::number(s, o + 2)),
+        kind::NAME => Step::Name(x, y),
+        kind::CODE => Step::Code(x, y),
+        kind::ADD => Step::Add(x, y, z),
+        kind::NEW => Step::New(x, y, z),
+        kind::READ => Step::Read(x, y),
+        kind::WRITE => Step::Write(x, y),
+        kind::RELABEL => Step::Relabel(x, Label(y)),
+        kind::LOWER => Step::Lower(Label(x)),
+        kind::START => Step::Start(x),
         _ => Step::Exec(x),
     }
 }
@@ -124,7 +127,7 @@ pub fn step_end(stretch: &[u8], offset: usize) -> usize
 {
     if offset < stretch.len() {
         let k = stretch[offset];
-        if records::group_of(k) != 5 {
+        if records::group_of(k) != group::STEPS {
             return 0;
         }
         let end = records::next_record(stretch, offset);
@@ -154,7 +157,7 @@ pub fn cell_at(book: &[u8], offset: usize) -> CellAt
 {
     if offset < book.len() {
         let k = book[offset];
-        if records::group_of(k) != 3 {
+        if records::group_of(k) != group::CELLS {
             return CellAt::NoCell;
         }
         let end = records::next_record(book, offset);

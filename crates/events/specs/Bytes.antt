@@ -1,4 +1,5 @@
 -- The event list as bytes: 01, "The machine", and refusal 9.
+--     stepEvent, .., startEvent, maxListBytes    the kinds of event; how long a list may be
 --     span                                       the bytes of an event of a kind
 --     next, cut, offsetsFrom                     the events by their offsets
 --     eventAt, eventsFrom, eventsIn              what they say
@@ -21,15 +22,38 @@ use Rattle.machine.specs.declared.Event.{Event}
 use Rattle.machine.specs.declared.Event.the-variants.{StepOf, WriteBy, RelabelBy, NewBy, ExecBy, StartBy}
 use Rattle.events.specs.declared.Scanned.{Scanned}
 
+-- "80 step job; by an outsider at label Q: 81 write ..; 82 relabel ..; 83 new ..; 84 exec ..; 85 start .."
+abbrev pub stepEvent : ℕ
+stepEvent = 80
+
+abbrev pub writeEvent : ℕ
+writeEvent = 81
+
+abbrev pub relabelEvent : ℕ
+relabelEvent = 82
+
+abbrev pub newEvent : ℕ
+newEvent = 83
+
+abbrev pub execEvent : ℕ
+execEvent = 84
+
+abbrev pub startEvent : ℕ
+startEvent = 85
+
+-- "exceeds 65,536 bytes"
+abbrev pub maxListBytes : ℕ
+maxListBytes = 65536
+
 -- "Events, laid out as records are (kind byte, then one-byte fields, a number of 4)". 0 for a kind that is none.
 unfoldable pub span : ℕ → ℕ
 span k =
-    if eqb k 80 then 2
-    else if eqb k 81 then 8
-    else if eqb k 82 then 4
-    else if eqb k 83 then 8
-    else if eqb k 84 then 3
-    else if eqb k 85 then 3
+    if eqb k stepEvent then 2
+    else if eqb k writeEvent then 8
+    else if eqb k relabelEvent then 4
+    else if eqb k newEvent then 8
+    else if eqb k execEvent then 3
+    else if eqb k startEvent then 3
     else 0
 
 -- the offset past the event at o
@@ -53,11 +77,11 @@ eventAt list o =
     let y = byteAt list (o + 2) in
     let z = byteAt list (o + 3) in
     let n = numberAt list (o + 4) in
-    if eqb k 80 then StepOf x
-    else if eqb k 81 then WriteBy (label x) y z n
-    else if eqb k 82 then RelabelBy (label x) y (label z)
-    else if eqb k 83 then NewBy (label x) y z n
-    else if eqb k 84 then ExecBy (label x) y
+    if eqb k stepEvent then StepOf x
+    else if eqb k writeEvent then WriteBy (label x) y z n
+    else if eqb k relabelEvent then RelabelBy (label x) y (label z)
+    else if eqb k newEvent then NewBy (label x) y z n
+    else if eqb k execEvent then ExecBy (label x) y
     else StartBy (label x) y
 
 -- the events from o on, and all of them
@@ -73,7 +97,7 @@ eventFault list = first (cut list) (offsetsFrom list 0)
 
 -- 9: "The event list exceeds 65,536 bytes (place 0), or has an unknown kind or a cut body."
 unfoldable pub unplayable : List ℕ → Refusal
-unplayable list = if ltb 65536 (length list) then Refused 9 0 else orRefuse 9 (eventFault list) Passed
+unplayable list = if ltb maxListBytes (length list) then Refused 9 0 else orRefuse 9 (eventFault list) Passed
 
 -- what a refusal at o hands back
 abbrev pub refusedScan : ℕ → ℕ → Scanned

@@ -2,6 +2,7 @@
 use book::Refusal;
 use labels::Label;
 use machine::Event;
+use machine::kind;
 ghost use mathlib.Core.Path.{_≡_};
 ghost use Prim.Native.Nat.{_<_, _≤_};
 ghost use lib.ListN.{length};
@@ -18,22 +19,22 @@ pub struct Scanned {
 fn span_of(kind: u8) -> u8
     ensures { λ r. ⌜ r ≡ span kind ⌝ }
 {
-    if kind == 80 {
+    if kind == kind::STEP {
         return 2;
     }
-    if kind == 81 {
+    if kind == kind::WRITE {
         return 8;
     }
-    if kind == 82 {
+    if kind == kind::RELABEL {
         return 4;
     }
-    if kind == 83 {
+    if kind == kind::NEW {
         return 8;
     }
-    if kind == 84 {
+    if kind == kind::EXEC {
         return 3;
     }
-    if kind == 85 {
+    if kind == kind::START {
         return 3;
     }
     0
@@ -46,7 +47,7 @@ fn is_cut(list: &[u8], o: usize) -> bool
     ensures { λ r. ⌜ r ≡ cut (now (list .entry)) o ⌝ }
 {
     let k = list[o];
-    if k == 81 {
+    if k == kind::WRITE {
         if list.len() - o < 8 {
             return true;
         }
@@ -79,16 +80,16 @@ pub fn event_at(list: &[u8], o: usize) -> Event
 {
     let k = list[o];
     let x = records::byte(list, o + 1);
-    if k == 80 {
+    if k == kind::STEP {
         return Event::StepOf(x);
     }
     let y = records::byte(list, o + 2);
     let z = records::byte(list, o + 3);
     match k {
-        81 => Event::WriteBy(Label(x), y, z, records::number(list, o + 4)),
-        82 => Event::RelabelBy(Label(x), y, Label(z)),
-        83 => Event::NewBy(Label(x), y, z, records::number(list, o + 4)),
-        84 => Event::ExecBy(Label(x), y),
+        kind::WRITE => Event::WriteBy(Label(x), y, z, records::number(list, o + 4)),
+        kind::RELABEL => Event::RelabelBy(Label(x), y, Label(z)),
+        kind::NEW => Event::NewBy(Label(x), y, z, records::number(list, o + 4)),
+        kind::EXEC => Event::ExecBy(Label(x), y),
         _ => Event::StartBy(Label(x), y),
     }
 }
@@ -122,7 +123,7 @@ fn pass_steps(list: &[u8], from: usize) -> StepsPassed
     let mut n: usize = 0;
     while o + 1 < list.len() {
         let k = list[o];
-        if k != 80 {
+        if k != kind::STEP {
             return StepsPassed { at: o, count: n };
         }
         o = o + 2;

@@ -4,23 +4,25 @@ use book::Fault;
 use book::Outline;
 use book::Step;
 use book::Value;
+use book::group;
+use book::kind;
 ghost use mathlib.Core.Path.{_≡_};
 ghost use Prim.Native.Nat.{_<_};
 ghost use lib.ListN.{length};
 ghost use Rattle.book.specs.Refusals.{valueNamed, cellNamed, stepNamed, dangling, nameFault};
-ghost use Rattle.book.specs.Asked.{Outlined, cellKind};
+ghost use Rattle.book.specs.Asked.{Outlined, isCellShapeIn};
 
 // The shape of this number is a cell shape.
 fn is_cell_shape(shapes: &[u8], i: u8) -> bool
-    ensures { λ r. ⌜ r ≡ cellKind (now (shapes .entry)) i ⌝ }
+    ensures { λ r. ⌜ r ≡ isCellShapeIn (now (shapes .entry)) i ⌝ }
 {
     let x = decode::shape_in(shapes, i);
-    x.kind == 18
+    x.kind == kind::CELL_SHAPE
 }
 
 // A declared cell names a cell shape, and a cell or block that exists.
 fn cell_named(cell: Declared, shapes: &[u8], cells: usize, blocks: usize) -> bool
-    ensures { λ r. ⌜ r ≡ cellNamed (cellKind (now (shapes .entry))) cells blocks cell ⌝ }
+    ensures { λ r. ⌜ r ≡ cellNamed (isCellShapeIn (now (shapes .entry))) cells blocks cell ⌝ }
 {
     let value = cell.value;
     if is_cell_shape(shapes, cell.shape) {
@@ -31,7 +33,7 @@ fn cell_named(cell: Declared, shapes: &[u8], cells: usize, blocks: usize) -> boo
 
 // A step names a cell shape, a cell or a block that exists, where it names one.
 fn step_named(step: Step, shapes: &[u8], cells: usize, blocks: usize) -> bool
-    ensures { λ r. ⌜ r ≡ stepNamed (cellKind (now (shapes .entry))) cells blocks step ⌝ }
+    ensures { λ r. ⌜ r ≡ stepNamed (isCellShapeIn (now (shapes .entry))) cells blocks step ⌝ }
 {
     match step {
         Step::Put(_, _) => true,
@@ -51,19 +53,19 @@ fn step_named(step: Step, shapes: &[u8], cells: usize, blocks: usize) -> bool
 // The record at an offset, before which n shapes stand, names what the book does not have.
 fn is_dangling(s: &[u8], o: usize, n: usize, shapes: &[u8], cells: usize, blocks: usize) -> bool
     requires { ⌜ o < length (now s) ⌝ }
-    ensures { λ r. ⌜ r ≡ dangling (cellKind (now (shapes .entry))) cells blocks (now (s .entry)) n o ⌝ }
+    ensures { λ r. ⌜ r ≡ dangling (isCellShapeIn (now (shapes .entry))) cells blocks (now (s .entry)) n o ⌝ }
 {
     let k = s[o];
-    if k == 18 {
+    if k == kind::CELL_SHAPE {
         let content = records::byte(s, o + 1);
         return n <= content as usize;
     }
     let g = records::group_of(k);
-    if g == 3 {
+    if g == group::CELLS {
         let cell = decode::decode_cell(s, o);
         return !cell_named(cell, shapes, cells, blocks);
     }
-    if g == 5 {
+    if g == group::STEPS {
         let step = decode::decode_step(s, o);
         return !step_named(step, shapes, cells, blocks);
     }
@@ -87,7 +89,7 @@ pub fn name_fault(s: &[u8], t: Outline) -> Fault
         let k = s[o];
         let g = records::group_of(k);
         o = records::next_record(s, o);
-        if g == 2 {
+        if g == group::SHAPES {
             n = n + 1;
         }
     }

@@ -1,12 +1,15 @@
 // Refusals 2 to 5: each the first record at fault. Refusal 6 needs the outline, and stands in naming.rt.
 use book::Fault;
 use book::Tally;
+use book::group;
+use book::kind;
+use book::limit;
 ghost use mathlib.Core.Path.{_≡_};
 ghost use mathlib.Core.Bool.{false};
 ghost use Prim.Native.Nat.{_<_, min};
 ghost use lib.ListN.{length};
 ghost use Rattle.book.specs.Refusals.{cutFault, inOrder, orderFault, counted, tooMany, countFault, outOfRange, rangeFault};
-ghost use Rattle.book.specs.Asked.{Whole, limit};
+ghost use Rattle.book.specs.Asked.{Whole, Limited};
 
 // 2: a kind that is none, or a body that the book ends in.
 pub fn cut_fault(s: &[u8]) -> Fault
@@ -30,13 +33,13 @@ pub fn cut_fault(s: &[u8]) -> Fault
 pub fn in_order(p: u8, g: u8) -> bool
     ensures { λ r. ⌜ r ≡ inOrder p g ⌝ }
 {
-    if p == 0 {
-        return g == 1;
+    if p == group::NONE {
+        return g == group::C;
     }
-    if g == 5 {
-        return p == 4;
+    if g == group::STEPS {
+        return p == group::BLOCKS;
     }
-    if 1 < g {
+    if group::C < g {
         return p <= g;
     }
     false
@@ -46,7 +49,7 @@ pub fn in_order(p: u8, g: u8) -> bool
 pub fn block_group(g: u8) -> u8
     ensures { λ r. ⌜ r ≡ min g 4 ⌝ }
 {
-    if g < 4 { g } else { 4 }
+    if g < group::BLOCKS { g } else { group::BLOCKS }
 }
 
 // 3: the first record is not C, a record is out of order, or no block stands.
@@ -55,7 +58,7 @@ pub fn order_fault(s: &[u8]) -> Fault
     ensures { λ r. ⌜ r ≡ orderFault (now (s .entry)) ⌝ }
 {
     let mut o: usize = 0;
-    let mut p: u8 = 0;
+    let mut p = group::NONE;
     while o < s.len() {
         let k = s[o];
         let g = records::group_of(k);
@@ -67,7 +70,7 @@ pub fn order_fault(s: &[u8]) -> Fault
             return Fault::At(o);
         }
     }
-    if p == 4 {
+    if p == group::BLOCKS {
         return Fault::Nowhere;
     }
     Fault::At(s.len())
@@ -79,20 +82,20 @@ pub fn count(n: Tally, g: u8) -> Tally
     ensures { λ r. ⌜ r ≡ counted n g ⌝ }
 {
     let mut m = n;
-    if g == 2 {
+    if g == group::SHAPES {
         m.shapes = n.shapes + 1;
         return m;
     }
-    if g == 3 {
+    if g == group::CELLS {
         m.cells = n.cells + 1;
         return m;
     }
-    if g == 4 {
+    if g == group::BLOCKS {
         m.blocks = n.blocks + 1;
         m.steps = 0;
         return m;
     }
-    if g == 5 {
+    if g == group::STEPS {
         m.steps = n.steps + 1;
         return m;
     }
@@ -138,97 +141,47 @@ pub fn count_fault(s: &[u8]) -> Fault
     Fault::Nowhere
 }
 
-// The largest value of a record's first field; 255 where any byte will do, or none stands.
-fn first_limit(kind: u8) -> u8
-    ensures { λ r. ⌜ r ≡ limit kind 0 ⌝ }
-{
-    if 75 <= kind {
-        return 255;
-    }
-    if 74 <= kind {
-        return 7;
-    }
-    if 73 <= kind {
-        return 255;
-    }
-    if 72 <= kind {
-        return 15;
-    }
-    if 64 <= kind {
-        return 7;
-    }
-    if 49 <= kind {
-        return 255;
-    }
-    if 48 <= kind {
-        return 15;
-    }
-    if 18 <= kind {
-        return 255;
-    }
-    if 17 <= kind {
-        return 15;
-    }
-    if 2 <= kind {
-        return 255;
-    }
-    if 1 <= kind {
-        return 14;
-    }
-    255
+// The largest values of a record's first three fields; 255 where any byte will do, or none stands.
+struct Limits {
+    first: u8,
+    second: u8,
+    third: u8,
 }
 
-// That of its second.
-fn second_limit(kind: u8) -> u8
-    ensures { λ r. ⌜ r ≡ limit kind 1 ⌝ }
+fn limited(kind: u8, first: u8, second: u8, third: u8) -> Limits
+    requires { ⌜ Limited kind first second third ⌝ }
+    ensures { λ r. ⌜ Limited kind (r .first) (r .second) (r .third) ⌝ }
 {
-    if 72 <= kind {
-        return 255;
+    Limits {
+        first: first,
+        second: second,
+        third: third,
     }
-    if 71 <= kind {
-        return 15;
-    }
-    if 69 <= kind {
-        return 7;
-    }
-    if 68 <= kind {
-        return 255;
-    }
-    if 67 <= kind {
-        return 7;
-    }
-    if 33 <= kind {
-        return 255;
-    }
-    if 32 <= kind {
-        return 15;
-    }
-    if 19 <= kind {
-        return 255;
-    }
-    if 18 <= kind {
-        return 15;
-    }
-    255
 }
 
-// That of its third.
-fn third_limit(kind: u8) -> u8
-    ensures { λ r. ⌜ r ≡ limit kind 2 ⌝ }
+fn limits_of(kind: u8) -> Limits
+    ensures { λ r. ⌜ Limited kind (r .first) (r .second) (r .third) ⌝ }
 {
-    if 69 <= kind {
-        return 255;
+    match kind {
+        kind::C => limited(kind, limit::C, limit::ANY, limit::ANY),
+        kind::PLAIN_SHAPE => limited(kind, limit::ANY, limit::ANY, limit::ANY),
+        kind::CODE_SHAPE => limited(kind, limit::LABEL, limit::ANY, limit::ANY),
+        kind::CELL_SHAPE => limited(kind, limit::ANY, limit::LABEL, limit::ANY),
+        kind::CELL => limited(kind, limit::ANY, limit::LABEL, limit::VALUE_KIND),
+        kind::BLOCK => limited(kind, limit::LABEL, limit::ANY, limit::ANY),
+        kind::PUT => limited(kind, limit::REGISTER, limit::ANY, limit::ANY),
+        kind::NAME => limited(kind, limit::REGISTER, limit::ANY, limit::ANY),
+        kind::CODE => limited(kind, limit::REGISTER, limit::ANY, limit::ANY),
+        kind::ADD => limited(kind, limit::REGISTER, limit::REGISTER, limit::REGISTER),
+        kind::NEW => limited(kind, limit::REGISTER, limit::ANY, limit::REGISTER),
+        kind::READ => limited(kind, limit::REGISTER, limit::REGISTER, limit::ANY),
+        kind::WRITE => limited(kind, limit::REGISTER, limit::REGISTER, limit::ANY),
+        kind::RELABEL => limited(kind, limit::REGISTER, limit::LABEL, limit::ANY),
+        kind::LOWER => limited(kind, limit::LABEL, limit::ANY, limit::ANY),
+        kind::START => limited(kind, limit::ANY, limit::ANY, limit::ANY),
+        kind::EXEC => limited(kind, limit::REGISTER, limit::ANY, limit::ANY),
+        _ => limited(kind, limit::ANY, limit::ANY, limit::ANY),
     }
-    if 67 <= kind {
-        return 7;
-    }
-    if 33 <= kind {
-        return 255;
-    }
-    if 32 <= kind {
-        return 2;
-    }
-    255
 }
 
 // A field is above its largest value. No field after the third has one.
@@ -236,14 +189,14 @@ fn out_of_range(s: &[u8], o: usize) -> bool
     requires { ⌜ o < length (now s) ⌝ }
     ensures { λ r. ⌜ r ≡ outOfRange (now (s .entry)) o ⌝ }
 {
-    let k = s[o];
-    if first_limit(k) < records::byte(s, o + 1) {
+    let limits = limits_of(s[o]);
+    if limits.first < records::byte(s, o + 1) {
         return true;
     }
-    if second_limit(k) < records::byte(s, o + 2) {
+    if limits.second < records::byte(s, o + 2) {
         return true;
     }
-    third_limit(k) < records::byte(s, o + 3)
+    limits.third < records::byte(s, o + 3)
 }
 
 // 5: a label, bound or trust above 15, C above 14, a register above 7, a value kind above 2.

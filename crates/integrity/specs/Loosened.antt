@@ -11,7 +11,7 @@ use mathlib.Core.Bool.{Bool, not}
 use mathlib.Core.List.{List, [], _∷_}
 use lib.ListN.{length, getElem?}
 use Rattle.labels.specs.declared.Label.{Label}
-use Rattle.labels.specs.Labels.{label, reaches, isHigh}
+use Rattle.labels.specs.Labels.{label, topLabel, reaches, isHigh}
 use Rattle.book.specs.declared.Value.the-variants.{CellName}
 use Rattle.book.specs.declared.Step.{Step}
 use Rattle.book.specs.declared.Step.the-variants.{Put, Name, Code, Add, New, Read, Write, Relabel, Lower, Start, Exec}
@@ -27,7 +27,7 @@ use Rattle.machine.specs.Histories.{History, append, lists}
 use Rattle.machine.specs.States.{Traced, Job, State}
 use Rattle.machine.specs.Acts.{Effect, blocked, keep, store, launch, unless, isFree, execLabel, acted, freshJob, making, starting}
 use Rattle.machine.specs.Steps.{Turn, register, turn, stay, moved, gets, through, turnOf}
-use Rattle.machine.specs.Events.{Outcome, tableSize, topLabel, launchLabel, finished, noSuch, blockOf, trustOf, isOutsider, isLabel, isBlock, isCell, isValue, unchanged}
+use Rattle.machine.specs.Events.{Outcome, tableSize, launchLabel, finished, noSuch, blockOf, trustOf, isOutsider, isLabel, isBlock, isCell, isValue, unchanged}
 use Rattle.machine.specs.Events.{landed, turnLanded, ifSuch, brought, freshState, outcomeOf, stateAfter}
 use Rattle.integrity.specs.Integrity.{Sentences}
 use Rattle.integrity.specs.Weakened.{instead, asked, raised}

@@ -19,6 +19,7 @@ use Rattle.machine.specs.States.{State}
 use Rattle.machine.specs.Histories.{sources}
 use Rattle.machine.specs.Events.{launchLabel, blockOf, freshState}
 use Rattle.events.specs.Bytes.{eventsIn, unplayable}
+use Rattle.tables.specs.Bytes.{cellTableSize, jobTableSize}
 use Rattle.acts.specs.declared.Cell.{Cell}
 use Rattle.acts.specs.declared.Job.{Job}
 use Rattle.acts.specs.Views.{cellOf, jobOf}
@@ -49,8 +50,8 @@ opening b = freshState sources (parse b) (launchLabel (parse b))
 pub record Lent (list cells jobs answers : List ℕ) : Type 0 where
   pub playable : unplayable list ≡ Passed
   pub room : length (eventsIn list) ≤ length answers
-  pub cells-sized : length cells ≡ 576
-  pub jobs-sized : length jobs ≡ 3328
+  pub cells-sized : length cells ≡ cellTableSize
+  pub jobs-sized : length jobs ≡ jobTableSize
 
 -- a readable book, the parts of its outline that the loop is lent, and what is lent to the run
 pub record Ready (b : List ℕ) (c : Label) (shapes offsets starts : List ℕ) (bound : Label) (list cells jobs answers : List ℕ) : Type 0 where

@@ -17,7 +17,7 @@ use Rattle.machine.specs.States.{State}
 use Rattle.machine.specs.Events.{tableSize, launchLabel, freshState, stateAfter, answers}
 use Rattle.machine.specs.Records.{cellRecords, jobRecords}
 use Rattle.events.specs.Bytes.{eventsIn, unplayable}
-use Rattle.tables.specs.Bytes.{cellTable, jobTable}
+use Rattle.tables.specs.Bytes.{cellTableSize, jobTableSize, cellTable, jobTable}
 use Rattle.interpreter.specs.declared.Ran.{Ran}
 
 -- "a stage covers the whole book before the next begins"
@@ -25,9 +25,9 @@ unfoldable pub orNext : Refusal → Refusal → Refusal
 orNext Passed r = r
 orNext (Refused n o) r = Refused n o
 
--- 10: "The cell or job table has not exactly 64 entries." 64 cells of 9 bytes, 64 jobs of 52.
+-- 10: "The cell or job table has not exactly 64 entries."
 unfoldable pub untabled : ℕ → ℕ → Refusal
-untabled cells jobs = if both (eqb cells 576) (eqb jobs 3328) then Passed else Refused 10 0
+untabled cells jobs = if both (eqb cells cellTableSize) (eqb jobs jobTableSize) then Passed else Refused 10 0
 
 -- 11: "The answer buffer has fewer bytes than the list has events."
 unfoldable pub unanswered : ℕ → ℕ → Refusal

@@ -3,7 +3,9 @@ use acts::Effect;
 use acts::Job;
 use acts::Near;
 use book::Refusal;
+use book::kind;
 use labels::Label;
+use machine::answer;
 ghost use mathlib.Core.Path.{_≡_};
 ghost use Prim.Native.Nat.{_≤_};
 ghost use Rattle.book.specs.declared.Refusal.the-variants.{Passed};
@@ -48,14 +50,14 @@ pub fn play(
         let slot = at;
         at = at + 1;
         let kind = list[o];
-        if kind == 80 {
+        if kind == machine::kind::STEP {
             let i = records::byte(list, o + 1) as usize;
             o = o + 2;
             if i < m {
                 let place = begun[i].at;
                 let past = decode::step_end(book, place);
                 if past == 0 {
-                    answers[slot] = 2;
+                    answers[slot] = answer::NO_STEP_LEFT;
                     continue;
                 }
                 let k = records::byte(book, place);
@@ -69,44 +71,44 @@ pub fn play(
                     cells: n,
                     jobs: m,
                 };
-                if k == 68 {
+                if k == kind::NEW {
                     let x = turns::create(book, place, j.label, j.source, registers, near);
                     if let Effect::Create(r, d) = x {
                         let t = acts::names(j, past, r, n);
                         begun[i] = t;
                         held[n] = d;
                         n = n + 1;
-                        answers[slot] = 0;
+                        answers[slot] = answer::DONE;
                     } else {
-                        answers[slot] = 1;
+                        answers[slot] = answer::BLOCKED;
                     }
-                } else if k < 70 {
+                } else if k < kind::WRITE {
                     let x = turns::give(book, place, j.label, j.source, registers, near, u);
                     if let Effect::Give(r, v) = x {
                         let t = acts::gets(j, past, r, v);
                         begun[i] = t;
-                        answers[slot] = 0;
+                        answers[slot] = answer::DONE;
                     } else {
-                        answers[slot] = 1;
+                        answers[slot] = answer::BLOCKED;
                     }
-                } else if k < 72 {
+                } else if k < kind::LOWER {
                     let x = turns::change(book, place, j.label, j.source, registers, near, u);
                     if let Effect::Store(d) = x {
                         let t = acts::moved(j, past);
                         begun[i] = t;
                         held[q] = d;
-                        answers[slot] = 0;
+                        answers[slot] = answer::DONE;
                     } else {
-                        answers[slot] = 1;
+                        answers[slot] = answer::BLOCKED;
                     }
-                } else if k == 72 {
+                } else if k == kind::LOWER {
                     let x = turns::lower(book, place, j.label, j.source, registers, near);
                     if let Effect::Lower(l, h) = x {
                         let t = acts::lowered(j, past, l, h);
                         begun[i] = t;
-                        answers[slot] = 0;
+                        answers[slot] = answer::DONE;
                     } else {
-                        answers[slot] = 1;
+                        answers[slot] = answer::BLOCKED;
                     }
                 } else {
                     let x = turns::launch(book, place, j.label, j.source, registers, near, u);
@@ -116,13 +118,13 @@ pub fn play(
                         let child = Job::fresh(b, tables::start_of(starts, b, book.len()), l, h);
                         begun[m] = child;
                         m = m + 1;
-                        answers[slot] = 0;
+                        answers[slot] = answer::DONE;
                     } else {
-                        answers[slot] = 1;
+                        answers[slot] = answer::BLOCKED;
                     }
                 }
             } else {
-                answers[slot] = 3;
+                answers[slot] = answer::NO_SUCH;
             }
         } else {
             let e = events::event_at(list, o);
@@ -158,7 +160,7 @@ pub fn play(
                     }
                 }
             } else {
-                answers[slot] = 3;
+                answers[slot] = answer::NO_SUCH;
             }
         }
     }
@@ -169,7 +171,7 @@ pub fn play(
         tables::save_job(j, y, jobs);
         y = y + 1;
     }
-    tables::clear_from(jobs, m * 52);
+    tables::clear_from(jobs, m * Job::BYTES);
     Ran {
         refusal: Refusal::Passed,
         cells: n,

@@ -1,5 +1,6 @@
 -- Labels and trust: 01, "Labels". A label is document 001's dynamic label, a trust its static label.
 --     label, trust            a number as one
+--     topLabel                the highest
 --     lower                   the lower of two labels
 --     reaches, isAbove        one label against another
 --     isMet, isHigh, covers   a trust against a label
@@ -16,6 +17,10 @@ label n = record { 0 = n }
 
 abbrev pub trust : ℕ → Trust
 trust n = record { 0 = n }
+
+-- "Labels are 0 to 15; higher is more trusted."
+abbrev pub topLabel : Label
+topLabel = label 15
 
 -- 01: "The lower of two labels is read from a table of 256 entries, row times 16 plus column." 02, Five: "The 256-entry table for the
 -- lower of two labels goes. A comparison gives the same label for every pair, and nobody above it should see a difference."

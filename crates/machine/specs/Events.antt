@@ -11,8 +11,9 @@ use lib.Dec.{leb, ltb}
 use lib.ListN.{length, getD, set, getElem?}
 use Rattle.labels.specs.declared.Label.{Label}
 use Rattle.labels.specs.declared.Trust.{Trust}
-use Rattle.labels.specs.Labels.{label, reaches, isHigh}
+use Rattle.labels.specs.Labels.{label, topLabel, reaches, isHigh}
 use Rattle.book.specs.declared.Declared.{Declared}
+use Rattle.book.specs.Numbers.{maxValueKind}
 use Rattle.book.specs.Control.{both, onSome}
 use Rattle.book.specs.Book.{Book, Block, valueOf}
 use Rattle.book.specs.Refusals.{noShape, hasCellShape, valueNamed}
@@ -40,10 +41,6 @@ noSuch = 3
 -- "to 64 cells and 64 jobs in a run"
 abbrev pub tableSize : ℕ
 tableSize = 64
-
--- "Labels are 0 to 15"
-abbrev pub topLabel : Label
-topLabel = label 15
 
 -- a block by its number; one that does not exist has bound 0 and no steps
 abbrev pub noBlock : Block
@@ -80,7 +77,7 @@ module _ {H : Type 0} where
 
   -- a value of kind k and number n
   abbrev pub isValue : Book → State H → ℕ → ℕ → Bool
-  isValue K s k n = both (leb k 2) (valueNamed (length (s .cells)) (length (K .blocks)) (valueOf k n))
+  isValue K s k n = both (leb k maxValueKind) (valueNamed (length (s .cells)) (length (K .blocks)) (valueOf k n))
 
 -- an event's answer, and the state after it
 pub record Outcome (H : Type 0) : Type 0 where

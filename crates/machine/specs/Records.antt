@@ -8,6 +8,7 @@ use Rattle.labels.specs.declared.Label.{Label}
 use Rattle.labels.specs.declared.Trust.{Trust}
 use Rattle.book.specs.declared.Value.{Value}
 use Rattle.book.specs.declared.Value.the-variants.{Plain, CellName, CodeName}
+use Rattle.book.specs.Numbers.{plainValue, cellValue, codeValue}
 use Rattle.book.specs.Book.{Book}
 use Rattle.machine.specs.Histories.{History, source}
 use Rattle.machine.specs.States.{Traced, Cell, Job, State}
@@ -15,9 +16,9 @@ use Rattle.machine.specs.Events.{trustOf}
 
 -- "0 plain, 1 cell, 2 code"
 abbrev pub kindOf : Value → ℕ
-kindOf (Plain n) = 0
-kindOf (CellName n) = 1
-kindOf (CodeName n) = 2
+kindOf (Plain n) = plainValue
+kindOf (CellName n) = cellValue
+kindOf (CodeName n) = codeValue
 
 abbrev pub numberOf : Value → ℕ
 numberOf (Plain n) = n

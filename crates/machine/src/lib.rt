@@ -1,4 +1,7 @@
 // The machine of a job book: what is done to it. What it then does is in specs/.
+pub mod answer;
+pub mod kind;
+
 use labels::Label;
 
 // An event, its fields in the record's order: 80 step job; by an outsider at a label, 81 write cell, value kind, number; 82 relabel

@@ -9,6 +9,7 @@ use lib.Dec.{leb, ltb, eqb}
 use Rattle.labels.specs.declared.Label.{Label}
 use Rattle.labels.specs.Labels.{reaches, isHigh}
 use Rattle.book.specs.declared.Shape.{Shape}
+use Rattle.book.specs.Numbers.{cellShapeKind}
 use Rattle.book.specs.Control.{both}
 use Rattle.book.specs.Book.{valueOf}
 use Rattle.book.specs.Refusals.{valueNamed}
@@ -21,7 +22,7 @@ use Rattle.machine.specs.Events.{tableSize, isLabel, brought}
 
 -- "a shape that is no cell shape or has trust above C"
 unfoldable pub lowCellShape : Label → Shape → Bool
-lowCellShape c x = both (eqb (x .kind) 18) (not (isHigh (x .trust) c))
+lowCellShape c x = both (eqb (x .kind) cellShapeKind) (not (isHigh (x .trust) c))
 
 -- with so many cells and blocks: "also one that the event's value names", "a value kind above 2"
 unfoldable pub suchValue : ℕ → ℕ → ℕ → ℕ → Bool

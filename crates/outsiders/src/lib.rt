@@ -2,6 +2,8 @@
 use acts::Effect;
 use acts::Near;
 use acts::Stored;
+use book::kind;
+use book::limit;
 use labels::Label;
 use machine::Event;
 ghost use mathlib.Core.Path.{_≡_};
@@ -17,7 +19,7 @@ fn is_low_cell_shape(c: Label, shapes: &[u8], i: u8) -> bool
 {
     let x = decode::shape_in(shapes, i);
     let trust = x.trust;
-    if x.kind == 18 {
+    if x.kind == kind::CELL_SHAPE {
         return !trust.is_high(c);
     }
     false
@@ -28,7 +30,7 @@ fn is_such_value(cells: usize, blocks: usize, kind: u8, number: u32) -> bool
     ensures { λ r. ⌜ r ≡ suchValue cells blocks kind number ⌝ }
 {
     let v = decode::value_of(kind, number);
-    if kind <= 2 {
+    if kind <= limit::VALUE_KIND {
         return decode::value_named(v, cells, blocks);
     }
     false
@@ -37,7 +39,7 @@ fn is_such_value(cells: usize, blocks: usize, kind: u8, number: u32) -> bool
 fn is_label(o: Label) -> bool
     ensures { λ r. ⌜ r ≡ isLabel o ⌝ }
 {
-    o.0 <= 15
+    Label::TOP.reaches(o)
 }
 
 // An outsider's write is not answered by 3.

@@ -2,6 +2,7 @@
 use book::Counts;
 use book::Outline;
 use book::Shape;
+use book::group;
 use labels::Label;
 ghost use mathlib.Core.Path.{_≡_};
 ghost use mathlib.Core.List.{_++_};
@@ -73,16 +74,16 @@ fn fill(
         let k = s[o];
         let g = records::group_of(k);
         let w = records::next_record(s, o);
-        if g == 2 {
+        if g == group::SHAPES {
             let x = decode::decode_shape(s, o);
             put_shape(shape, n.shapes, x);
             n.shapes = n.shapes + 1;
             o = w;
-        } else if g == 3 {
+        } else if g == group::CELLS {
             put_cell(cell, shaped, n.cells, s, o);
             n.cells = n.cells + 1;
             o = w;
-        } else if g == 4 {
+        } else if g == group::BLOCKS {
             let r = records::skip_steps(s, w);
             put_block(bound, start, size, n.blocks, s, o, w, r.at);
             n.blocks = n.blocks + 1;

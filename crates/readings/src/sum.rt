@@ -5,6 +5,7 @@ use book::Shape;
 use book::Step;
 use book::StepAt;
 use book::Value;
+use book::kind;
 
 fn feed(sum: u32, x: u32) -> u32 {
     (sum % 65521 * 31 + x % 65521) % 65521
@@ -50,17 +51,17 @@ fn feed_cell(sum: u32, book: &[u8], at: u16, shape: u8) -> u32 {
 // Kind, then the fields in record order.
 fn feed_step(sum: u32, step: Step) -> u32 {
     match step {
-        Step::Put(r, n) => feed(feed_two(sum, 64, r), n),
-        Step::Name(r, k) => feed_three(sum, 65, r, k),
-        Step::Code(r, b) => feed_three(sum, 66, r, b),
-        Step::Add(r, a, b) => feed_byte(feed_three(sum, 67, r, a), b),
-        Step::New(r, i, a) => feed_byte(feed_three(sum, 68, r, i), a),
-        Step::Read(r, w) => feed_three(sum, 69, r, w),
-        Step::Write(w, a) => feed_three(sum, 70, w, a),
-        Step::Relabel(w, l) => feed_three(sum, 71, w, l.0),
-        Step::Lower(l) => feed_two(sum, 72, l.0),
-        Step::Start(b) => feed_two(sum, 73, b),
-        Step::Exec(w) => feed_two(sum, 74, w),
+        Step::Put(r, n) => feed(feed_two(sum, kind::PUT, r), n),
+        Step::Name(r, k) => feed_three(sum, kind::NAME, r, k),
+        Step::Code(r, b) => feed_three(sum, kind::CODE, r, b),
+        Step::Add(r, a, b) => feed_byte(feed_three(sum, kind::ADD, r, a), b),
+        Step::New(r, i, a) => feed_byte(feed_three(sum, kind::NEW, r, i), a),
+        Step::Read(r, w) => feed_three(sum, kind::READ, r, w),
+        Step::Write(w, a) => feed_three(sum, kind::WRITE, w, a),
+        Step::Relabel(w, l) => feed_three(sum, kind::RELABEL, w, l.0),
+        Step::Lower(l) => feed_two(sum, kind::LOWER, l.0),
+        Step::Start(b) => feed_two(sum, kind::START, b),
+        Step::Exec(w) => feed_two(sum, kind::EXEC, w),
     }
 }
 

@@ -1,4 +1,6 @@
 // Bytes and numbers of a book, and what a kind fixes.
+use book::group;
+use book::kind;
 ghost use mathlib.Core.Path.{_≡_};
 ghost use Prim.Native.Nat.{_+_, _*_, _≤_};
 ghost use lib.ListN.{length};
@@ -47,19 +49,19 @@ fn step_span(kind: u8) -> u8
     requires { ⌜ 64 ≤ kind ⌝ }
     ensures { λ r. ⌜ r ≡ span kind ⌝ }
 {
-    if kind == 64 {
+    if kind == kind::PUT {
         return 6;
     }
-    if 75 <= kind {
+    if kind::EXEC < kind {
         return 0;
     }
-    if 72 <= kind {
+    if kind::LOWER <= kind {
         return 2;
     }
-    if 69 <= kind {
+    if kind::READ <= kind {
         return 3;
     }
-    if 67 <= kind {
+    if kind::ADD <= kind {
         return 4;
     }
     3
@@ -69,66 +71,66 @@ fn step_span(kind: u8) -> u8
 pub fn span_of(kind: u8) -> u8
     ensures { λ r. ⌜ r ≡ span kind ⌝ }
 {
-    if 64 <= kind {
+    if kind::PUT <= kind {
         return step_span(kind);
     }
-    if 49 <= kind {
+    if kind::BLOCK < kind {
         return 0;
     }
-    if 48 <= kind {
+    if kind::BLOCK <= kind {
         return 2;
     }
-    if 33 <= kind {
+    if kind::CELL < kind {
         return 0;
     }
-    if 32 <= kind {
+    if kind::CELL <= kind {
         return 8;
     }
-    if 19 <= kind {
+    if kind::CELL_SHAPE < kind {
         return 0;
     }
-    if 18 <= kind {
+    if kind::CELL_SHAPE <= kind {
         return 3;
     }
-    if 17 <= kind {
+    if kind::CODE_SHAPE <= kind {
         return 2;
     }
-    if 16 <= kind {
+    if kind::PLAIN_SHAPE <= kind {
         return 1;
     }
-    if 2 <= kind {
+    if kind::C < kind {
         return 0;
     }
-    if 1 <= kind {
+    if kind::C <= kind {
         return 2;
     }
     0
 }
 
-// The group of a kind: C 1, shapes 2, cells 3, blocks 4, steps 5, no kind 0.
+// The group of a kind.
 pub fn group_of(kind: u8) -> u8
     ensures { λ r. ⌜ r ≡ group kind ⌝ }
 {
-    if 64 <= kind {
-        if kind <= 74 {
-            return 5;
+    if kind::PUT <= kind {
+        if kind <= kind::EXEC {
+            return group::STEPS;
         }
-        return 0;
+        return group::NONE;
     }
-    if kind == 48 {
-        return 4;
+    if kind == kind::BLOCK {
+        return group::BLOCKS;
     }
-    if kind == 32 {
-        return 3;
+    if kind == kind::CELL {
+        return group::CELLS;
     }
-    if 16 <= kind {
-        if kind <= 18 {
-            return 2;
+    if kind::PLAIN_SHAPE <= kind {
+        if kind <= kind::CELL_SHAPE {
+            return group::SHAPES;
         }
-        return 0;
+        return group::NONE;
     }
-    if kind == 1 {
-        return 1;
+    if kind == kind::C {
+        return group::C;
     }
-    0
+    group::NONE
 }

@@ -2,6 +2,7 @@
 use crate::fields;
 use crate::reader::Reader;
 use book::Skipped;
+use book::group;
 ghost use mathlib.Core.Path.{_≡_};
 ghost use Prim.Native.Nat.{_<_, _≤_};
 ghost use lib.ListN.{length};
@@ -27,7 +28,7 @@ pub fn skip_steps(s: &[u8], from: usize) -> Skipped
     while o < s.len() {
         let k = s[o];
         let g = fields::group_of(k);
-        if g != 5 {
+        if g != group::STEPS {
             return Skipped { at: o, count: n };
         }
         o = next_record(s, o);

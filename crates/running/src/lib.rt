@@ -1,4 +1,6 @@
 // The run of a book: refusals, then the events, then the lent tables.
+use acts::Cell;
+use acts::Job;
 use book::Outline;
 use book::Refusal;
 use interpreter::Ran;
@@ -13,13 +15,13 @@ ghost use Rattle.running.specs.Runnable.{Runnable};
 fn refuse_memory(count: usize, cells: usize, jobs: usize, room: usize) -> Refusal
     ensures { λ r. ⌜ r ≡ memoryRefusal count cells jobs room ⌝ }
 {
-    if cells != 576 {
+    if cells != Cell::TABLE_BYTES {
         return Refusal::Refused {
             number: 10,
             place: 0,
         };
     }
-    if jobs != 3328 {
+    if jobs != Job::TABLE_BYTES {
         return Refusal::Refused {
             number: 10,
             place: 0,

@@ -1,5 +1,8 @@
 // Refusals 2 to 5 in one pass: it tells a book that none of them holds of. Which holds first, and where, the stages say.
 use book::Tally;
+use book::group;
+use book::kind;
+use book::limit;
 ghost use mathlib.Core.Path.{_≡_};
 ghost use mathlib.Core.Bool.{true};
 ghost use Prim.Native.Nat.{_<_};
@@ -35,23 +38,23 @@ fn fit_record(s: &[u8], o: usize) -> u8
 {
     let k = s[o];
     match k {
-        1 => fit(s, o, 2, 14, 255, 255),
-        16 => fit(s, o, 1, 255, 255, 255),
-        17 => fit(s, o, 2, 15, 255, 255),
-        18 => fit(s, o, 3, 255, 15, 255),
-        32 => fit(s, o, 8, 255, 15, 2),
-        48 => fit(s, o, 2, 15, 255, 255),
-        64 => fit(s, o, 6, 7, 255, 255),
-        65 => fit(s, o, 3, 7, 255, 255),
-        66 => fit(s, o, 3, 7, 255, 255),
-        67 => fit(s, o, 4, 7, 7, 7),
-        68 => fit(s, o, 4, 7, 255, 7),
-        69 => fit(s, o, 3, 7, 7, 255),
-        70 => fit(s, o, 3, 7, 7, 255),
-        71 => fit(s, o, 3, 7, 15, 255),
-        72 => fit(s, o, 2, 15, 255, 255),
-        73 => fit(s, o, 2, 255, 255, 255),
-        74 => fit(s, o, 2, 7, 255, 255),
+        kind::C => fit(s, o, 2, limit::C, limit::ANY, limit::ANY),
+        kind::PLAIN_SHAPE => fit(s, o, 1, limit::ANY, limit::ANY, limit::ANY),
+        kind::CODE_SHAPE => fit(s, o, 2, limit::LABEL, limit::ANY, limit::ANY),
+        kind::CELL_SHAPE => fit(s, o, 3, limit::ANY, limit::LABEL, limit::ANY),
+        kind::CELL => fit(s, o, 8, limit::ANY, limit::LABEL, limit::VALUE_KIND),
+        kind::BLOCK => fit(s, o, 2, limit::LABEL, limit::ANY, limit::ANY),
+        kind::PUT => fit(s, o, 6, limit::REGISTER, limit::ANY, limit::ANY),
+        kind::NAME => fit(s, o, 3, limit::REGISTER, limit::ANY, limit::ANY),
+        kind::CODE => fit(s, o, 3, limit::REGISTER, limit::ANY, limit::ANY),
+        kind::ADD => fit(s, o, 4, limit::REGISTER, limit::REGISTER, limit::REGISTER),
+        kind::NEW => fit(s, o, 4, limit::REGISTER, limit::ANY, limit::REGISTER),
+        kind::READ => fit(s, o, 3, limit::REGISTER, limit::REGISTER, limit::ANY),
+        kind::WRITE => fit(s, o, 3, limit::REGISTER, limit::REGISTER, limit::ANY),
+        kind::RELABEL => fit(s, o, 3, limit::REGISTER, limit::LABEL, limit::ANY),
+        kind::LOWER => fit(s, o, 2, limit::LABEL, limit::ANY, limit::ANY),
+        kind::START => fit(s, o, 2, limit::ANY, limit::ANY, limit::ANY),
+        kind::EXEC => fit(s, o, 2, limit::REGISTER, limit::ANY, limit::ANY),
         _ => 0,
     }
 }
@@ -61,7 +64,7 @@ pub fn is_clear(s: &[u8]) -> bool
     ensures { λ r. ⌜ (r ≡ true → Clear (now (s .entry))) ⌝ }
 {
     let mut o: usize = 0;
-    let mut p: u8 = 0;
+    let mut p = group::NONE;
     let mut n = Tally {
         shapes: 0,
         cells: 0,
@@ -88,5 +91,5 @@ pub fn is_clear(s: &[u8]) -> bool
             return false;
         }
     }
-    p == 4
+    p == group::BLOCKS
 }

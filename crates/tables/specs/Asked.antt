@@ -9,7 +9,7 @@ use mathlib.Core.Path.{_≡_}
 use mathlib.Core.List.{List, _++_}
 use lib.ListN.{length, take, drop, replicate, getD}
 use Rattle.acts.specs.declared.Job.{Job}
-use Rattle.tables.specs.Bytes.{jobBytes, jobRecordOf}
+use Rattle.tables.specs.Bytes.{jobBytes, jobRecordOf, jobSize}
 
 abbrev pub put : List ℕ → ℕ → List ℕ → List ℕ
 put d at s = take at d ++ s ++ drop (at + length s) d
@@ -25,5 +25,5 @@ pub record NarrowJobs (jobs : List Job) (m : ℕ) : Type 0 where
   pub each : (i : ℕ) (d : Job) → i < m → Narrow (getD jobs i d)
 
 pub record Saved (j : Job) (i : ℕ) (before after : List ℕ) : Type 0 where
-  pub is : after ≡ put before (i * 52) (jobBytes (jobRecordOf j))
-  pub long : length (jobBytes (jobRecordOf j)) ≡ 52
+  pub is : after ≡ put before (i * jobSize) (jobBytes (jobRecordOf j))
+  pub long : length (jobBytes (jobRecordOf j)) ≡ jobSize

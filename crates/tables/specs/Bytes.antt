@@ -1,13 +1,15 @@
 -- The records of a run as bytes: 01, "The machine". A table is lent memory of 64 records, one after the other, numbers little-endian.
 --     numberBytes, valueBytes, cellBytes, jobBytes     a number, and each record
+--     cellSize, .., jobTableSize                       the bytes of a record, and of a table
 --     packed, cellTable, jobTable                      records one after the other; the whole tables
 --     storedRecord, cellRecordIn, jobRecordOf          the records of what the code holds
 --     savedCells, savedJobs                            the tables of what the code holds
 -- Assumes nothing.
-use Prim.Native.Nat.{ℕ, _%_, _/_}
+use Prim.Native.Nat.{ℕ, _*_, _%_, _/_}
 use mathlib.Core.List.{List, [], _∷_, _++_, map}
 use Rattle.labels.specs.declared.Trust.{Trust}
 use Rattle.book.specs.Outline.{pad, shapeIn}
+use Rattle.machine.specs.Events.{tableSize}
 use Rattle.machine.specs.Records.{kindOf, ValueRecord, CellRecord, JobRecord}
 use Rattle.acts.specs.declared.Stored.{Stored}
 use Rattle.acts.specs.declared.Cell.{Cell}
@@ -37,12 +39,25 @@ module _ {A : Type 0} (bytes : A → List ℕ) where
 abbrev pub jobBytes : JobRecord → List ℕ
 jobBytes j = j .block ∷ j .position ∷ j .label .0 ∷ j .source .0 ∷ packed valueBytes (j .registers)
 
--- "Unused table entries are all zero after a run": 64 cells of 9 bytes, 64 jobs of 52
+-- the bytes of a record, and of a table
+abbrev pub cellSize : ℕ
+cellSize = 9
+
+abbrev pub jobSize : ℕ
+jobSize = 52
+
+abbrev pub cellTableSize : ℕ
+cellTableSize = tableSize * cellSize
+
+abbrev pub jobTableSize : ℕ
+jobTableSize = tableSize * jobSize
+
+-- "Unused table entries are all zero after a run"
 unfoldable pub cellTable : List CellRecord → List ℕ
-cellTable cells = pad 576 0 (packed cellBytes cells)
+cellTable cells = pad cellTableSize 0 (packed cellBytes cells)
 
 unfoldable pub jobTable : List JobRecord → List ℕ
-jobTable jobs = pad 3328 0 (packed jobBytes jobs)
+jobTable jobs = pad jobTableSize 0 (packed jobBytes jobs)
 
 -- the records of the code's values, cells and jobs
 abbrev pub storedRecord : Stored → ValueRecord

@@ -6,7 +6,7 @@ use Prim.Native.Nat.{ℕ}
 use mathlib.Core.List.{List, map}
 use lib.Dec.{ltb}
 use lib.ListN.{length, getD}
-use Rattle.labels.specs.Labels.{label}
+use Rattle.labels.specs.Labels.{topLabel}
 use Rattle.book.specs.declared.Declared.{Declared}
 use Rattle.book.specs.Control.{if_then_else_}
 use Rattle.book.specs.Book.{declaredAt}
@@ -19,7 +19,7 @@ startIn starts x end = if ltb x (length starts) then getD starts x 0 else end
 
 -- a declared cell, as the run holds it: "Declared values have history 15."
 abbrev pub openedBy : Declared → Cell
-openedBy d = record { number = numberOf (d .value); kind = kindOf (d .value); source = label 15; shape = d .shape; label = d .label }
+openedBy d = record { number = numberOf (d .value); kind = kindOf (d .value); source = topLabel; shape = d .shape; label = d .label }
 
 unfoldable pub openedCells : List ℕ → List ℕ → List Cell
 openedCells b os = map (λ o. openedBy (declaredAt b o)) os

@@ -50,7 +50,7 @@ fn value_bytes(v: Stored) -> [u8; 6]
 }
 
 // Shape, trust, label, value.
-fn cell_bytes(c: Cell, trust: Trust) -> [u8; 9]
+fn cell_bytes(c: Cell, trust: Trust) -> [u8; Cell::BYTES]
     ensures { λ r. ⌜ r ≡ cellBytes (trustedRecord trust c) ⌝ }
 {
     let content = acts::content_of(c);
@@ -69,11 +69,11 @@ fn cell_bytes(c: Cell, trust: Trust) -> [u8; 9]
 }
 
 // Block, position, label, source, registers.
-fn job_bytes(j: Job) -> [u8; 52]
+fn job_bytes(j: Job) -> [u8; Job::BYTES]
     requires { ⌜ Narrow j ⌝ }
     ensures { λ r. ⌜ r ≡ jobBytes (jobRecordOf j) ⌝ }
 {
-    let mut out = [0u8; 52];
+    let mut out = [0u8; Job::BYTES];
     out[0] = j.block as u8;
     out[1] = j.position as u8;
     out[2] = j.label.0;
@@ -99,10 +99,10 @@ pub fn save_cells(cells: [Cell; Job::TABLE_SIZE], n: usize, shapes: &[u8], out: 
         let c = cells[i];
         let shape = decode::shape_in(shapes, c.shape);
         let b = cell_bytes(c, shape.trust);
-        copy_in(out, i * 9, &b);
+        copy_in(out, i * Cell::BYTES, &b);
         i = i + 1;
     }
-    clear_from(out, n * 9);
+    clear_from(out, n * Cell::BYTES);
 }
 
 // A job as entry i of a table. The run saves its jobs one by one: handed over together they would be copied.
@@ -111,5 +111,5 @@ pub fn save_job(j: Job, i: usize, out: &mut [u8])
     ensures { λ _. ⌜ Saved j i (now (out .entry)) (now (out .exit)) ⌝ }
 {
     let b = job_bytes(j);
-    copy_in(out, i * 52, &b);
+    copy_in(out, i * Job::BYTES, &b);
 }

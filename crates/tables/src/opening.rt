@@ -4,6 +4,7 @@ use acts::Job;
 use book::CellAt;
 use book::Declared;
 use book::Value;
+use book::value_kind;
 use labels::Label;
 ghost use mathlib.Core.Path.{_≡_};
 ghost use Prim.Native.Nat.{_≤_};
@@ -16,9 +17,9 @@ fn kind_in(v: Value) -> u8
     ensures { λ r. ⌜ r ≡ kindOf v ⌝ }
 {
     match v {
-        Value::Plain(_) => 0,
-        Value::CellName(_) => 1,
-        Value::CodeName(_) => 2,
+        Value::Plain(_) => value_kind::PLAIN,
+        Value::CellName(_) => value_kind::CELL,
+        Value::CodeName(_) => value_kind::CODE,
     }
 }
 
@@ -43,7 +44,7 @@ fn open_cell(d: Declared) -> Cell
     Cell {
         number: number,
         kind: kind,
-        source: Label(Job::TOP_LABEL),
+        source: Label::TOP,
         shape: d.shape,
         label: label,
     }

@@ -22,6 +22,7 @@ use Rattle.machine.specs.Events.{tableSize}
 use Rattle.acts.specs.declared.Stored.{Stored}
 use Rattle.acts.specs.declared.Effect.{Effect}
 use Rattle.acts.specs.Views.{actor, turnTaken, settled, Only}
+use Rattle.book.specs.Numbers.{putKind, newKind, writeKind, lowerKind, startKind}
 
 -- the number in register w
 abbrev pub numberIn : States.Job Label → ℕ → ℕ
@@ -62,13 +63,13 @@ pub record Takes (n : ℕ) (s : State Label) (p : Step) (l h : Label) (rs : List
 
 -- kinds of steps: put, name, code, add and read; write and relabel; start and exec
 pub record Gives (k : ℕ) : Type 0 where
-  pub from : 64 ≤ k
-  pub to : k < 70
-  pub no-new : k ≡ 68 → ⊥
+  pub from : putKind ≤ k
+  pub to : k < writeKind
+  pub no-new : k ≡ newKind → ⊥
 
 pub record Changes (k : ℕ) : Type 0 where
-  pub from : 70 ≤ k
-  pub to : k < 72
+  pub from : writeKind ≤ k
+  pub to : k < lowerKind
 
 pub record Launches (k : ℕ) : Type 0 where
-  pub from : 73 ≤ k
+  pub from : startKind ≤ k

@@ -2,6 +2,8 @@
 use acts::Effect;
 use acts::Near;
 use acts::Stored;
+use book::kind;
+use book::value_kind;
 use labels::Label;
 ghost use mathlib.Core.Path.{_≡_};
 ghost use Prim.Native.Nat.{_≤_};
@@ -40,10 +42,10 @@ fn add(l: Label, h: Label, registers: [Stored; 8], near: Near, r: u8, a: u8, b: 
 {
     let u = acts::register_of(h, registers, a);
     let v = acts::register_of(h, registers, b);
-    if u.kind != 0 {
+    if u.kind != value_kind::PLAIN {
         return Effect::Blocked;
     }
-    if v.kind != 0 {
+    if v.kind != value_kind::PLAIN {
         return Effect::Blocked;
     }
     let z = add_numbers(u.number, v.number);
@@ -52,7 +54,7 @@ fn add(l: Label, h: Label, registers: [Stored; 8], near: Near, r: u8, a: u8, b: 
         r,
         Stored {
             number: z,
-            kind: 0,
+            kind: value_kind::PLAIN,
             source: s.lower_of(h),
         },
     )
@@ -69,7 +71,7 @@ fn read(l: Label, h: Label, registers: [Stored; 8], near: Near, u: Stored, r: u8
     requires { ⌜ storedOf u ≡ registerIn h registers w ⌝ }
     ensures { λ x. ⌜ Takes giveSort (nearby near) (Read r w) l h registers x ⌝ }
 {
-    if u.kind != 1 {
+    if u.kind != value_kind::CELL {
         return Effect::Blocked;
     }
     let k = u.number;
@@ -86,7 +88,7 @@ fn write(l: Label, h: Label, registers: [Stored; 8], near: Near, u: Stored, w: u
     requires { ⌜ storedOf u ≡ registerIn h registers w ⌝ }
     ensures { λ x. ⌜ Takes storeSort (nearby near) (Write w a) l h registers x ⌝ }
 {
-    if u.kind != 1 {
+    if u.kind != value_kind::CELL {
         return Effect::Blocked;
     }
     // One that is blocked reads no value: that would copy the registers.
@@ -109,7 +111,7 @@ fn relabel(
     requires { ⌜ storedOf u ≡ registerIn h registers w ⌝ }
     ensures { λ x. ⌜ Takes storeSort (nearby near) (Relabel w o) l h registers x ⌝ }
 {
-    if u.kind != 1 {
+    if u.kind != value_kind::CELL {
         return Effect::Blocked;
     }
     acts::relabel_cell(l, h, near, u.number, o)
@@ -119,7 +121,7 @@ fn exec(l: Label, h: Label, registers: [Stored; 8], near: Near, u: Stored, w: u8
     requires { ⌜ storedOf u ≡ registerIn h registers w ⌝ }
     ensures { λ x. ⌜ Takes launchSort (nearby near) (Exec w) l h registers x ⌝ }
 {
-    if u.kind != 1 {
+    if u.kind != value_kind::CELL {
         return Effect::Blocked;
     }
     acts::exec_cell(l, h, near, u.number)
@@ -131,17 +133,17 @@ pub fn target_of(s: &[u8], o: usize, h: Label, registers: [Stored; 8]) -> Stored
     ensures { λ x. ⌜ storedOf x ≡ targetIn (stepAt (now (s .entry)) o) h registers ⌝ }
 {
     let k = records::byte(s, o);
-    if k == 69 {
+    if k == kind::READ {
         let named = records::byte(s, o + 2);
         return acts::register_of(h, registers, named);
     }
-    if k < 70 {
+    if k < kind::WRITE {
         return acts::zero_with(h);
     }
-    if k == 72 {
+    if k == kind::LOWER {
         return acts::zero_with(h);
     }
-    if k == 73 {
+    if k == kind::START {
         return acts::zero_with(h);
     }
     let named = records::byte(s, o + 1);
@@ -163,18 +165,18 @@ pub fn give(
 {
     let k = records::byte(s, o);
     let r = records::byte(s, o + 1);
-    if k == 64 {
+    if k == kind::PUT {
         let number = records::number(s, o + 2);
-        return given(r, 0, number, h);
+        return given(r, value_kind::PLAIN, number, h);
     }
     let y = records::byte(s, o + 2);
-    if k == 65 {
-        return given(r, 1, y as u32, h);
+    if k == kind::NAME {
+        return given(r, value_kind::CELL, y as u32, h);
     }
-    if k == 66 {
-        return given(r, 2, y as u32, h);
+    if k == kind::CODE {
+        return given(r, value_kind::CODE, y as u32, h);
     }
-    if k == 67 {
+    if k == kind::ADD {
         let z = records::byte(s, o + 3);
         return add(l, h, registers, near, r, y, z);
     }
@@ -208,7 +210,7 @@ pub fn change(
     let k = records::byte(s, o);
     let w = records::byte(s, o + 1);
     let y = records::byte(s, o + 2);
-    if k == 70 {
+    if k == kind::WRITE {
         return write(l, h, registers, near, u, w, y);
     }
     relabel(l, h, registers, near, u, w, Label(y))
@@ -240,9 +242,9 @@ pub fn launch(
     requires { ⌜ Launches (byteAt (now s) o) × (o ≤ length (now s)) × (storedOf u ≡ targetIn (stepAt (now s) o) h registers) ⌝ }
     ensures { λ x. ⌜ Takes launchSort (nearby near) (stepAt (now (s .entry)) o) l h registers x ⌝ }
 {
-    let kind = records::byte(s, o);
+    let k = records::byte(s, o);
     let x = records::byte(s, o + 1);
-    if kind == 73 {
+    if k == kind::START {
         return acts::start_job(l, h, near, x as u32);
     }
     exec(l, h, registers, near, u, x)

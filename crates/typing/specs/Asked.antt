@@ -12,6 +12,7 @@ use Rattle.labels.specs.declared.Label.{Label}
 use Rattle.labels.specs.Labels.{label}
 use Rattle.book.specs.declared.Shape.{Shape}
 use Rattle.book.specs.declared.Value.{Value}
+use Rattle.book.specs.Numbers.{codeShapeKind, cellShapeKind}
 use Rattle.book.specs.Control.{both}
 use Rattle.book.specs.Outline.{shapeIn}
 use Rattle.typing.specs.declared.Known.{Known}
@@ -25,7 +26,7 @@ use Rattle.typing.specs.Shapes.{View, knownValue}
 use Rattle.typing.specs.Rules.{Typed, passes, stuck, breaks, gives, lowered}
 
 abbrev pub plainShape : Shape → Bool
-plainShape x = both (not (eqb (x .kind) 17)) (not (eqb (x .kind) 18))
+plainShape x = both (not (eqb (x .kind) codeShapeKind)) (not (eqb (x .kind) cellShapeKind))
 
 unfoldable pub labelled : Option ℕ → Option Label
 labelled none = none

@@ -17,6 +17,7 @@ use Rattle.book.specs.declared.Value.{Value}
 use Rattle.book.specs.declared.Value.the-variants.{CellName, CodeName}
 use Rattle.book.specs.declared.Value.the-variants as Values
 use Rattle.book.specs.declared.Declared.{Declared}
+use Rattle.book.specs.Numbers.{codeShapeKind, cellShapeKind}
 use Rattle.book.specs.Control.{if_then_else_, both, either, onSome}
 use Rattle.book.specs.Book.{Book, Block}
 use Rattle.book.specs.Refusals.{noShape}
@@ -42,10 +43,10 @@ viewOf K =
 -- over C and the shapes by their numbers
 module _ (c : Label) (shape : ℕ → Shape) where
   abbrev pub isCode : ℕ → Bool
-  isCode i = eqb (shape i .kind) 17
+  isCode i = eqb (shape i .kind) codeShapeKind
 
   abbrev pub isCell : ℕ → Bool
-  isCell i = eqb (shape i .kind) 18
+  isCell i = eqb (shape i .kind) cellShapeKind
 
   abbrev pub isPlain : ℕ → Bool
   isPlain i = both (not (isCode i)) (not (isCell i))

@@ -5,6 +5,7 @@ use crate::State;
 use crate::Stepped;
 use crate::rules;
 use crate::shapes;
+use book::kind;
 use labels::Label;
 ghost use mathlib.Core.Path.{_≡_};
 ghost use lib.ListN.{getElem?};
@@ -20,7 +21,7 @@ pub fn name_step(shapes: &[u8], cells: &[u8], c: Label, s: State, r: u8, k: u8) 
     if n < cells.len() {
         let i = cells[n];
         let x = decode::shape_in(shapes, i);
-        if x.kind == 18 {
+        if x.kind == kind::CELL_SHAPE {
             let p = s.p;
             return rules::give(s, r, Known::CellOf(i), p);
         }
@@ -77,7 +78,7 @@ pub fn new_step(shapes: &[u8], c: Label, s: State, r: u8, i: u8, a: u8) -> Stepp
 {
     let p = s.p;
     let x = decode::shape_in(shapes, i);
-    if x.kind == 18 {
+    if x.kind == kind::CELL_SHAPE {
         if shapes::is_high(shapes, c, i) {
             if s.lowered {
                 if does_hold(shapes, c, s, a, i) {
@@ -186,7 +187,7 @@ pub fn exec_step(shapes: &[u8], c: Label, s: State, w: u8) -> Stepped
             let trust = shapes::trust_of(shapes, c, i);
             let bound = z.bound;
             let p = s.p;
-            if z.kind == 17 {
+            if z.kind == kind::CODE_SHAPE {
                 if bound.reaches(p) {
                     if trust.covers(p) {
                         return rules::pass(s);

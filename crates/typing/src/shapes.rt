@@ -1,6 +1,7 @@
 // Shapes: likeness, and what fits a content. A table of shapes is an outline's, four bytes to a shape.
 use crate::Known;
 use book::Shape;
+use book::kind;
 use labels::Label;
 use labels::Trust;
 ghost use mathlib.Core.Path.{_≡_};
@@ -12,10 +13,10 @@ ghost use Rattle.typing.specs.Asked.{plainShape};
 fn is_plain(x: Shape) -> bool
     ensures { λ r. ⌜ r ≡ plainShape x ⌝ }
 {
-    if x.kind == 17 {
+    if x.kind == kind::CODE_SHAPE {
         return false;
     }
-    x.kind != 18
+    x.kind != kind::CELL_SHAPE
 }
 
 // The trust of a shape, as typing counts it.
@@ -42,14 +43,14 @@ pub fn are_alike(shapes: &[u8], c: Label, i: u8, j: u8) -> bool
 {
     let a = decode::shape_in(shapes, i);
     let b = decode::shape_in(shapes, j);
-    if a.kind == 17 {
-        if b.kind == 17 {
+    if a.kind == kind::CODE_SHAPE {
+        if b.kind == kind::CODE_SHAPE {
             return a.bound.0 == b.bound.0;
         }
         return false;
     }
-    if a.kind == 18 {
-        if b.kind == 18 {
+    if a.kind == kind::CELL_SHAPE {
+        if b.kind == kind::CELL_SHAPE {
             let s = trust_of(shapes, c, i);
             let t = trust_of(shapes, c, j);
             if s.0 == t.0 {
@@ -68,10 +69,10 @@ pub fn known_of(shapes: &[u8], c: Label, i: u8) -> Known
 {
     let x = decode::shape_in(shapes, i);
     let bound = x.bound;
-    if x.kind == 17 {
+    if x.kind == kind::CODE_SHAPE {
         return Known::Code(bound);
     }
-    if x.kind == 18 {
+    if x.kind == kind::CELL_SHAPE {
         return Known::CellOf(i);
     }
     Known::Plain
@@ -88,7 +89,7 @@ pub fn does_fit(shapes: &[u8], c: Label, known: Known, i: u8) -> bool
         Known::Code(b) => {
             let x = decode::shape_in(shapes, i);
             let bound = x.bound;
-            if x.kind == 17 {
+            if x.kind == kind::CODE_SHAPE {
                 return b.reaches(bound);
             }
             false

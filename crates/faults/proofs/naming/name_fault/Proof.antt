@@ -4,7 +4,7 @@ use mathlib.Core.Path.{_≡_}
 use native.Mathlib.Omega.{arith}
 use lib.ListN.{length}
 use borrow.Author.Needs.{needs}
-use Rattle.book.specs.Asked.{Whole, cellKind}
+use Rattle.book.specs.Asked.{Whole, isCellShapeIn}
 use Rattle.book.specs.Records.{recordsFrom}
 use Rattle.book.specs.Refusals.{dangles, nameFault}
 use Rattle.book.proofs.Named.{names, name-start, name-shape, name-other}
@@ -14,7 +14,7 @@ use Rattle.faults.proofs.naming.name_fault.Tie as tie
 use Rattle.faults.proofs.naming.name_fault.Statement.{statement}
 
 abbrev Inv-loop : tie.InvT-loop
-Inv-loop s shapes cells blocks o₀ n₀ o n = (o ≤ length s) × Whole s o × (n ≤ o) × (dangles (cellKind shapes) cells blocks s n (recordsFrom s o) ≡ nameFault s)
+Inv-loop s shapes cells blocks o₀ n₀ o n = (o ≤ length s) × Whole s o × (n ≤ o) × (dangles (isCellShapeIn shapes) cells blocks s n (recordsFrom s o) ≡ nameFault s)
 
 abbrev μ-loop : tie.MeasureT-loop
 μ-loop s shapes cells blocks o₀ n₀ o n = length s - o
