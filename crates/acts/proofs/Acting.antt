@@ -21,15 +21,15 @@ use Rattle.book.proofs.Tests.{clash}
 use Rattle.machine.specs.Control.{given, onPlain, onCell, onCode}
 use Rattle.machine.specs.Histories.{sources}
 use Rattle.machine.specs.States.{Traced, Job, State}
-use Rattle.machine.specs.Acts.{Effect, blocked, store, create, launch, unless, isFree, acted, freshJob, execLabel, writing, relabelling, making, starting, executing}
+use Rattle.machine.specs.Acts.{Effect, blocked, store, create, launch, blockedUnless, isFree, acted, freshJob, execLabel, writeAct, relabelAct, newAct, startAct, execAct}
 use Rattle.machine.specs.Records.{kindOf}
 use Rattle.machine.specs.Events.{tableSize}
 use Rattle.acts.specs.declared.Stored.{Stored}
-use Rattle.acts.specs.declared.Cell.{Cell}
+use Rattle.acts.specs.declared.StoredCell.{StoredCell}
 use Rattle.acts.specs.declared.Near.{Near}
-use Rattle.acts.specs.declared.Effect as Told
-use Rattle.acts.specs.declared.Effect.the-variants.{Blocked, Store, Create, Launch}
-use Rattle.acts.specs.Views.{storedOf, contentOf, cellWith, cellOf, nearby, effectOf, jobAfter, kept, sortOf, waits, acts, Does, Makes, storeSort, launchSort, clamped, answerOf}
+use Rattle.acts.specs.declared.Act as Told
+use Rattle.acts.specs.declared.Act.the-variants.{Blocked, Store, Create, Launch}
+use Rattle.acts.specs.Views.{storedOf, storedContent, cellWith, cellOf, nearby, effectOf, jobAfter, kept, sortOf, waits, acts, Does, Makes, storeSort, launchSort, clamped, answerOf}
 
 pub same-some : {A : Type 0} (x : A) (n k : ℕ) → k < n → getElem? (replicate n x) k ≡ some x
 same-some x zero k h = absurd (omega arith)
@@ -129,7 +129,7 @@ idle = freshJob sources 0 (label 0) (label 0)
 -- the job that exec starts
 abbrev launching : Label → Label → Near → ℕ → Effect Label
 launching l h y b =
-    unless (isFree tableSize (nearby y .jobs))
+    blockedUnless (isFree tableSize (nearby y .jobs))
     (launch (freshJob sources b (execLabel l (y .cell .label)) (lower (lower h (y .cell .source)) (execLabel l (y .cell .label)))))
 
 -- what the code hands back, by what the effect e of the act is
@@ -139,7 +139,7 @@ module _ {s : State Label} {e : Effect Label} where
     unfolding effectOf jobAfter kept sortOf
     is-blocked q = record { does = λ j. rw q refl; only = waits refl }
 
-    is-store : {c : Cell} → e ≡ store k (cellOf c) → Does storeSort s k e (Store c)
+    is-store : {c : StoredCell} → e ≡ store k (cellOf c) → Does storeSort s k e (Store c)
     unfolding effectOf jobAfter kept sortOf
     is-store q = record { does = λ j. rw q refl; only = acts refl }
 
@@ -152,7 +152,7 @@ module _ {s : State Label} {e : Effect Label} where
     unfolding effectOf jobAfter kept sortOf
     is-not-made q = record { does = λ j. rw q refl; only = waits refl }
 
-    is-made : {c : Cell} → e ≡ create (cellOf c) → Makes s r e (Create r c)
+    is-made : {c : StoredCell} → e ≡ create (cellOf c) → Makes s r e (Create r c)
     unfolding effectOf jobAfter kept sortOf
     is-made q = record { does = λ j. rw q refl; only = acts refl }
 
@@ -184,81 +184,81 @@ module _ (l h : Label) (y : Near) where
         go false q = clash f (simp q at eo)
 
     -- whatever is written
-    pub write-closed : (v : Traced Label) → o ≡ false → Does storeSort (nearby y) k (writing sources (nearby y) l h k v) Blocked
-    unfolding writing onSome given both
+    pub write-closed : (v : Traced Label) → o ≡ false → Does storeSort (nearby y) k (writeAct sources (nearby y) l h k v) Blocked
+    unfolding writeAct onSome given both
     write-closed v f = go (ltb k (y .cells)) refl
       where
-        go : (t : Bool) → ltb k (y .cells) ≡ t → Does storeSort (nearby y) k (writing sources (nearby y) l h k v) Blocked
+        go : (t : Bool) → ltb k (y .cells) ≡ t → Does storeSort (nearby y) k (writeAct sources (nearby y) l h k v) Blocked
         go true q = let e : reaches l (y .cell .label) ≡ false = sym (simp q at eo) ∙ f in is-blocked (simp (there k (ltb-true k (y .cells) q), e))
         go false q = is-blocked (simp (nowhere k (ltb-false k (y .cells) q)))
 
-    pub write-done : (v x : Stored) (c : Cell) → o ≡ true → storedOf x ≡ acted sources h (storedOf v) → c ≡ cellWith x (y .cell .shape) (y .cell .label)
-        → Does storeSort (nearby y) k (writing sources (nearby y) l h k (storedOf v)) (Store c)
-    unfolding writing onSome given
+    pub write-done : (v x : Stored) (c : StoredCell) → o ≡ true → storedOf x ≡ acted sources h (storedOf v) → c ≡ cellWith x (y .cell .shape) (y .cell .label)
+        → Does storeSort (nearby y) k (writeAct sources (nearby y) l h k (storedOf v)) (Store c)
+    unfolding writeAct onSome given
     write-done v x c f e ec = let p = open-there f in is-store (rw ec (simp (there k (p .0), p .1, e)))
 
   module _ (k : ℕ) (o : Label) where
-    pub relabel-none : y .cells ≤ k → Does storeSort (nearby y) k (relabelling sources (nearby y) l h k o) Blocked
-    unfolding relabelling onSome
+    pub relabel-none : y .cells ≤ k → Does storeSort (nearby y) k (relabelAct sources (nearby y) l h k o) Blocked
+    unfolding relabelAct onSome
     relabel-none r = is-blocked (simp (nowhere k r))
 
     module _ (r : k < y .cells) (a : Bool) (ea : a ≡ reaches l (y .cell .label)) where
-      pub relabel-old : a ≡ false → Does storeSort (nearby y) k (relabelling sources (nearby y) l h k o) Blocked
-      unfolding relabelling onSome given both
+      pub relabel-old : a ≡ false → Does storeSort (nearby y) k (relabelAct sources (nearby y) l h k o) Blocked
+      unfolding relabelAct onSome given both
       relabel-old f = is-blocked (simp (there k r, ← ea, f))
 
       module _ (f : a ≡ true) (b : Bool) (eb : b ≡ reaches l o) where
-        pub relabel-new : b ≡ false → Does storeSort (nearby y) k (relabelling sources (nearby y) l h k o) Blocked
-        unfolding relabelling onSome given both
+        pub relabel-new : b ≡ false → Does storeSort (nearby y) k (relabelAct sources (nearby y) l h k o) Blocked
+        unfolding relabelAct onSome given both
         relabel-new g = is-blocked (simp (there k r, ← ea, f, ← eb, g))
 
-        pub relabel-done : (x : Stored) (c : Cell) → b ≡ true → x ≡ contentOf (y .cell) → c ≡ cellWith x (y .cell .shape) o
-            → Does storeSort (nearby y) k (relabelling sources (nearby y) l h k o) (Store c)
-        unfolding relabelling onSome given both
+        pub relabel-done : (x : Stored) (c : StoredCell) → b ≡ true → x ≡ storedContent (y .cell) → c ≡ cellWith x (y .cell .shape) o
+            → Does storeSort (nearby y) k (relabelAct sources (nearby y) l h k o) (Store c)
+        unfolding relabelAct onSome given both
         relabel-done x c g ex ec = is-store (rw (ec, ex) (simp (there k r, ← ea, f, ← eb, g)))
 
   module _ (r i : ℕ) (v : Stored) where
-    pub make-full : 64 ≤ y .cells → Makes (nearby y) r (making sources tableSize (nearby y) l h i (storedOf v)) Blocked
-    unfolding making given
+    pub make-full : 64 ≤ y .cells → Makes (nearby y) r (newAct sources tableSize (nearby y) l h i (storedOf v)) Blocked
+    unfolding newAct given
     make-full f = is-not-made (simp (length-replicate (y .cells) (cellOf (y .cell)), le-ltb _ _ f))
 
-    pub make-done : (x : Stored) (c : Cell) → y .cells < 64 → storedOf x ≡ acted sources h (storedOf v) → c ≡ cellWith x i l
-        → Makes (nearby y) r (making sources tableSize (nearby y) l h i (storedOf v)) (Create r c)
-    unfolding making given
+    pub make-done : (x : Stored) (c : StoredCell) → y .cells < 64 → storedOf x ≡ acted sources h (storedOf v) → c ≡ cellWith x i l
+        → Makes (nearby y) r (newAct sources tableSize (nearby y) l h i (storedOf v)) (Create r c)
+    unfolding newAct given
     make-done x c f e ec = is-made (rw ec (simp (length-replicate (y .cells) (cellOf (y .cell)), lt-ltb _ _ f, e)))
 
   module _ (b : ℕ) where
-    pub start-full : 64 ≤ y .jobs → Does launchSort (nearby y) 0 (starting sources tableSize (nearby y) l h b) Blocked
-    unfolding starting given
+    pub start-full : 64 ≤ y .jobs → Does launchSort (nearby y) 0 (startAct sources tableSize (nearby y) l h b) Blocked
+    unfolding startAct given
     start-full r = is-blocked (simp (length-replicate (y .jobs) idle, le-ltb _ _ r))
 
-    pub start-done : y .jobs < 64 → Does launchSort (nearby y) 0 (starting sources tableSize (nearby y) l h b) (Launch b l h)
-    unfolding starting given
+    pub start-done : y .jobs < 64 → Does launchSort (nearby y) 0 (startAct sources tableSize (nearby y) l h b) (Launch b l h)
+    unfolding startAct given
     start-done r = is-launch (simp (length-replicate (y .jobs) idle, lt-ltb _ _ r))
 
   module _ (k : ℕ) where
-    pub exec-none : y .cells ≤ k → Does launchSort (nearby y) k (executing sources tableSize (nearby y) l h k) Blocked
-    unfolding executing onSome
+    pub exec-none : y .cells ≤ k → Does launchSort (nearby y) k (execAct sources tableSize (nearby y) l h k) Blocked
+    unfolding execAct onSome
     exec-none r = is-blocked (simp (nowhere k r))
 
     -- v is the cell's content
-    module _ (r : k < y .cells) (v : Stored) (ev : v ≡ contentOf (y .cell)) where
-      pub exec-other : v .kind < 2 → Does launchSort (nearby y) k (executing sources tableSize (nearby y) l h k) Blocked
-      unfolding executing onSome
+    module _ (r : k < y .cells) (v : Stored) (ev : v ≡ storedContent (y .cell)) where
+      pub exec-other : v .kind < 2 → Does launchSort (nearby y) k (execAct sources tableSize (nearby y) l h k) Blocked
+      unfolding execAct onSome
       exec-other n =
           is-blocked (simp (there k r, not-code blocked (launching l h y) (y .cell .number) (y .cell .kind) (rw ev at n)))
 
       module _ (n : 2 ≤ v .kind) where
-        pub exec-full : 64 ≤ y .jobs → Does launchSort (nearby y) k (executing sources tableSize (nearby y) l h k) Blocked
-        unfolding executing onSome given
+        pub exec-full : 64 ≤ y .jobs → Does launchSort (nearby y) k (execAct sources tableSize (nearby y) l h k) Blocked
+        unfolding execAct onSome given
         exec-full f =
             is-blocked
             (simp (there k r, is-code blocked (launching l h y) (y .cell .number) (y .cell .kind) (rw ev at n))
             (simp (length-replicate (y .jobs) idle, le-ltb _ _ f)))
 
         pub exec-done : (low s t : Label) → y .jobs < 64 → low ≡ lower l (y .cell .label) → s ≡ lower h (v .source) → t ≡ lower s low
-            → Does launchSort (nearby y) k (executing sources tableSize (nearby y) l h k) (Launch (v .number) low t)
-        unfolding executing onSome given execLabel
+            → Does launchSort (nearby y) k (execAct sources tableSize (nearby y) l h k) (Launch (v .number) low t)
+        unfolding execAct onSome given execLabel
         exec-done low s t f el es et =
             rw ev
             (is-launch
@@ -286,5 +286,5 @@ clamp-out k h = (simp (le-ltb _ _ h), omega arith)
 pub ruleset clamps = (clamp-in, clamp-out)
 
 -- a is what the code found, and y the effect of the same sort
-pub answer-is : (x y : Told.Effect) (a : ℕ) → x ≡ y → a ≡ answerOf y → a ≡ answerOf x
+pub answer-is : (x y : Told.Act) (a : ℕ) → x ≡ y → a ≡ answerOf y → a ≡ answerOf x
 answer-is x y a d q = rw d q

@@ -16,7 +16,7 @@ use Rattle.machine.specs.Acts.{acted, zeroWith, freshJob}
 use Rattle.machine.specs.Steps.{moved, gets}
 use Rattle.machine.proofs.Maps.{map-set}
 use Rattle.acts.specs.declared.Stored.{Stored}
-use Rattle.acts.specs.declared.Job.{Job}
+use Rattle.acts.specs.declared.StoredJob.{StoredJob}
 use Rattle.acts.specs.Views.{valueIn, storedOf, jobOf, registerIn, lowered}
 
 pub at-any : {A B : Type 0} (f : A → B) (l : List A) (i : ℕ) (d : A) (e : B) → i < length l → f (getD l i d) ≡ getD (map f l) i e
@@ -43,7 +43,7 @@ pub acted-is : (h : Label) (v : Stored) (s : Label) → s ≡ lower (v .source) 
 acted-is h v s e = simp e
 
 -- the job j, whose step is done and whose next step is at o
-module _ (j : Job) (o : ℕ) where
+module _ (j : StoredJob) (o : ℕ) where
   pub moved-is : jobOf (record { block = j .block; position = j .position + 1; at = o; label = j .label; source = j .source; registers = j .registers })
       ≡ moved sources (jobOf j)
   moved-is = rw (one-more (j .position)) refl
@@ -67,7 +67,7 @@ module _ (j : Job) (o : ℕ) where
   gets-in r v = rw (map-set storedOf (j .registers) r v, one-more (j .position)) refl
 
 -- past the eighth nothing is written; of an array in a struct the length is known through what its entries are to the machine
-pub gets-past : {Y : Type 0} (g : Stored → Y) (j : Job) (r n : ℕ) → length (map g (j .registers)) ≡ n → (o : ℕ) (v : Stored) → n ≤ r
+pub gets-past : {Y : Type 0} (g : Stored → Y) (j : StoredJob) (r n : ℕ) → length (map g (j .registers)) ≡ n → (o : ℕ) (v : Stored) → n ≤ r
     → jobOf (record { block = j .block; position = j .position + 1; at = o; label = j .label; source = j .source; registers = j .registers })
     ≡ gets sources (jobOf j) r (valueIn v) (v .source)
 gets-past g j r n long o v k =

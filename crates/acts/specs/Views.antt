@@ -2,7 +2,7 @@
 --     valueIn, storedOf, cellOf, jobOf     a value, a cell, a job
 --     actor, registerIn                    a job by what a step looks at; a register of it
 --     nearby                               a state in which every cell is the one that an act reaches
---     contentOf, cellWith                  the content of a cell; a cell of this content
+--     storedContent, cellWith                  the content of a cell; a cell of this content
 --     effectOf, jobAfter, turnTaken        what an effect is to the tables, where cell k is reached; to the job that acts; both
 --     sortOf, Only                         the sort of an effect; one that is blocked or of one sort
 --     answerOf                             the answer to an event of this effect
@@ -30,11 +30,11 @@ use Rattle.machine.specs.Steps.{turn, moved, gets}
 use Rattle.machine.specs.Steps as Steps
 use Rattle.machine.specs.Events.{tableSize, done, stopped}
 use Rattle.acts.specs.declared.Stored.{Stored}
-use Rattle.acts.specs.declared.Cell.{Cell}
-use Rattle.acts.specs.declared.Job.{Job}
+use Rattle.acts.specs.declared.StoredCell.{StoredCell}
+use Rattle.acts.specs.declared.StoredJob.{StoredJob}
 use Rattle.acts.specs.declared.Near.{Near}
-use Rattle.acts.specs.declared.Effect.{Effect}
-use Rattle.acts.specs.declared.Effect.the-variants.{Blocked, Give, Lower, Store, Create, Launch}
+use Rattle.acts.specs.declared.Act.{Act}
+use Rattle.acts.specs.declared.Act.the-variants.{Blocked, Give, Lower, Store, Create, Launch}
 
 -- "A stored value is kind, number and source": any kind is read, as in the book
 abbrev pub valueIn : Stored → Value
@@ -43,20 +43,20 @@ valueIn v = valueOf (v .kind) (v .number)
 abbrev pub storedOf : Stored → Traced Label
 storedOf v = record { value = valueIn v; history = v .source }
 
-abbrev pub contentOf : Cell → Stored
-contentOf c = record { number = c .number; kind = c .kind; source = c .source }
+abbrev pub storedContent : StoredCell → Stored
+storedContent c = record { number = c .number; kind = c .kind; source = c .source }
 
-abbrev pub cellWith : Stored → ℕ → Label → Cell
+abbrev pub cellWith : Stored → ℕ → Label → StoredCell
 cellWith v i l = record { number = v .number; kind = v .kind; source = v .source; shape = i; label = l }
 
-abbrev pub cellOf : Cell → States.Cell Label
-cellOf c = record { shape = c .shape; label = c .label; content = storedOf (contentOf c) }
+abbrev pub cellOf : StoredCell → States.Cell Label
+cellOf c = record { shape = c .shape; label = c .label; content = storedOf (storedContent c) }
 
 -- a job of this block and position, by what a step looks at
 abbrev pub actor : Label → Label → List Stored → ℕ → ℕ → States.Job Label
 actor l h rs b i = record { block = b; position = i; label = l; registers = map storedOf rs; history = h }
 
-abbrev pub jobOf : Job → States.Job Label
+abbrev pub jobOf : StoredJob → States.Job Label
 jobOf j = actor (j .label) (j .source) (j .registers) (j .block) (j .position)
 
 abbrev pub registerIn : Label → List Stored → ℕ → Traced Label
@@ -67,7 +67,7 @@ abbrev pub nearby : Near → State Label
 nearby x = record { cells = replicate (x .cells) (cellOf (x .cell)); jobs = replicate (x .jobs) (freshJob sources 0 (label 0) (label 0)) }
 
 -- what it does to the tables
-unfoldable pub effectOf : ℕ → Effect → Acts.Effect Label
+unfoldable pub effectOf : ℕ → Act → Acts.Effect Label
 effectOf k Blocked = blocked
 effectOf k (Give r v) = keep
 effectOf k (Lower q h) = keep
@@ -76,7 +76,7 @@ effectOf k (Create r c) = create (cellOf c)
 effectOf k (Launch b l h) = launch (freshJob sources b l h)
 
 -- the answer to it
-unfoldable pub answerOf : Effect → ℕ
+unfoldable pub answerOf : Act → ℕ
 answerOf Blocked = stopped
 answerOf (Give r v) = done
 answerOf (Lower q h) = done
@@ -89,7 +89,7 @@ abbrev pub lowered : States.Job Label → Label → Label → States.Job Label
 lowered j q h = record { block = j .block; position = suc (j .position); label = q; registers = j .registers; history = h }
 
 -- what it does to the job that acts, in a state s
-unfoldable pub jobAfter : State Label → States.Job Label → Effect → States.Job Label
+unfoldable pub jobAfter : State Label → States.Job Label → Act → States.Job Label
 jobAfter s j Blocked = j
 jobAfter s j (Give r v) = gets sources j r (valueIn v) (v .source)
 jobAfter s j (Lower q h) = lowered j q h
@@ -97,7 +97,7 @@ jobAfter s j (Store c) = moved sources j
 jobAfter s j (Create r c) = gets sources j r (CellName (length (s .cells))) (j .history)
 jobAfter s j (Launch b l h) = moved sources j
 
-abbrev pub turnTaken : State Label → States.Job Label → ℕ → Effect → Steps.Turn Label
+abbrev pub turnTaken : State Label → States.Job Label → ℕ → Act → Steps.Turn Label
 turnTaken s j k x = record { job = jobAfter s j x; effect = effectOf k x }
 
 -- "\"Blocked\" changes nothing": j is the job before, g the job after
@@ -131,7 +131,7 @@ createSort = 4
 abbrev pub launchSort : ℕ
 launchSort = 5
 
-unfoldable pub sortOf : Effect → ℕ
+unfoldable pub sortOf : Act → ℕ
 sortOf Blocked = 0
 sortOf (Give r v) = giveSort
 sortOf (Lower q h) = lowerSort
@@ -140,16 +140,16 @@ sortOf (Create r c) = createSort
 sortOf (Launch b l h) = launchSort
 
 -- blocked, or of sort n
-pub data Only (n : ℕ) (x : Effect) : Type 0 where
+pub data Only (n : ℕ) (x : Act) : Type 0 where
   waits : sortOf x ≡ 0 → Only n x
   acts : sortOf x ≡ n → Only n x
 
 -- x is the effect e of an act in the state s, where cell k is reached, whichever job acts; it is blocked or of sort n
-pub record Does (n : ℕ) (s : State Label) (k : ℕ) (e : Acts.Effect Label) (x : Effect) : Type 0 where
+pub record Does (n : ℕ) (s : State Label) (k : ℕ) (e : Acts.Effect Label) (x : Act) : Type 0 where
   pub does : (j : States.Job Label) → turnTaken s j k x ≡ settled j (turn sources (moved sources j) e)
   pub only : Only n x
 
 -- the same of new, which names the cell in register r
-pub record Makes (s : State Label) (r : ℕ) (e : Acts.Effect Label) (x : Effect) : Type 0 where
+pub record Makes (s : State Label) (r : ℕ) (e : Acts.Effect Label) (x : Act) : Type 0 where
   pub does : (j : States.Job Label) → turnTaken s j 0 x ≡ settled j (turn sources (gets sources j r (CellName (length (s .cells))) (j .history)) e)
   pub only : Only createSort x

@@ -34,7 +34,7 @@ pub struct Stored {
 }
 
 // A cell: the number, kind and source of its content, its shape and its label. No byte is unused, so that a table of cells is cleared at once.
-pub struct Cell {
+pub struct StoredCell {
     pub number: u32,
     pub kind: u8,
     pub source: Label,
@@ -43,7 +43,7 @@ pub struct Cell {
 }
 
 // A job; its source is the lowest label of its history. Where its next step stands in the book is the run's to know.
-pub struct Job {
+pub struct StoredJob {
     pub registers: [Stored; 8],
     pub at: usize,
     pub block: u32,
@@ -52,14 +52,14 @@ pub struct Job {
     pub source: Label,
 }
 
-impl Cell {
+impl StoredCell {
     // The bytes of a cell in the table of cells, and those of the table.
     pub const BYTES: usize = 9;
 
     pub const TABLE_BYTES: usize = 576;
 }
 
-impl Job {
+impl StoredJob {
     // How many cells, and how many jobs, a run may have.
     pub const TABLE_SIZE: usize = 64;
 
@@ -69,11 +69,11 @@ impl Job {
     pub const TABLE_BYTES: usize = 3328;
 
     // A job at the start of its block, which stands at an offset of the book.
-    pub fn fresh(block: u32, at: usize, label: Label, source: Label) -> Job
+    pub fn fresh(block: u32, at: usize, label: Label, source: Label) -> StoredJob
         ensures { λ x. ⌜ (jobOf x ≡ freshJob sources block label source) × (x .at ≡ at) × (x .position ≡ 0) × (x .block ≡ block) ⌝ }
     {
         let zero = registers::zero_with(source);
-        Job {
+        StoredJob {
             registers: [zero; 8],
             at: at,
             block: block,
@@ -86,19 +86,19 @@ impl Job {
 
 // What an act looks at: the cell that it reaches, and how many cells and jobs are in use.
 pub struct Near {
-    pub cell: Cell,
+    pub cell: StoredCell,
     pub cells: usize,
     pub jobs: usize,
 }
 
 // What an act does: it is blocked; a register of the job that acts has this value; its label and its source are these; the cell that is reached
 // now stands so; a cell is new, and a register of the job that acts names it; a job of this block, label and source is new.
-pub enum Effect {
+pub enum Act {
     Blocked,
     Give(u8, Stored),
     Lower(Label, Label),
-    Store(Cell),
-    Create(u8, Cell),
+    Store(StoredCell),
+    Create(u8, StoredCell),
     Launch(u32, Label, Label),
 }
 
@@ -106,7 +106,7 @@ pub enum Effect {
 pub fn clamp(k: usize) -> usize
     ensures { λ r. ⌜ (r ≡ clamped k) × (r < 64) ⌝ }
 {
-    if k < Job::TABLE_SIZE {
+    if k < StoredJob::TABLE_SIZE {
         return k;
     }
     0

@@ -1,7 +1,7 @@
 // The registers of a job, and a job whose step is done.
-use crate::Cell;
-use crate::Job;
 use crate::Stored;
+use crate::StoredCell;
+use crate::StoredJob;
 use book::value_kind;
 use labels::Label;
 ghost use mathlib.Core.Path.{_≡_};
@@ -11,7 +11,7 @@ ghost use Rattle.machine.specs.Histories.{sources};
 ghost use Rattle.machine.specs.Acts.{acted, zeroWith};
 ghost use Rattle.machine.specs.Steps.{moved, gets};
 ghost use Rattle.machine.specs.Records.{kindOf};
-ghost use Rattle.acts.specs.Views.{valueIn, storedOf, contentOf, cellWith, jobOf, registerIn, lowered};
+ghost use Rattle.acts.specs.Views.{valueIn, storedOf, storedContent, cellWith, jobOf, registerIn, lowered};
 
 // What registers start as, and what one past the eighth holds.
 pub fn zero_with(h: Label) -> Stored
@@ -36,11 +36,11 @@ pub fn register_of(h: Label, registers: [Stored; 8], r: u8) -> Stored
 }
 
 // A cell of this content.
-pub fn hold(content: Stored, shape: u8, label: Label) -> Cell
+pub fn hold(content: Stored, shape: u8, label: Label) -> StoredCell
     ensures { λ x. ⌜ x ≡ cellWith content shape label ⌝ }
 {
     let source = content.source;
-    Cell {
+    StoredCell {
         number: content.number,
         kind: content.kind,
         source: source,
@@ -49,8 +49,8 @@ pub fn hold(content: Stored, shape: u8, label: Label) -> Cell
     }
 }
 
-pub fn content_of(cell: Cell) -> Stored
-    ensures { λ x. ⌜ x ≡ contentOf cell ⌝ }
+pub fn content_of(cell: StoredCell) -> Stored
+    ensures { λ x. ⌜ x ≡ storedContent cell ⌝ }
 {
     let source = cell.source;
     Stored {
@@ -83,7 +83,7 @@ pub fn kind_of(v: Stored) -> u8
 }
 
 // The step is done, and the next one is at an offset of the book.
-pub fn moved(j: Job, next: usize) -> Job
+pub fn moved(j: StoredJob, next: usize) -> StoredJob
     requires { ⌜ j .position < 65535 ⌝ }
     ensures { λ x. ⌜ (jobOf x ≡ moved sources (jobOf j)) × (x .at ≡ next) ⌝ }
 {
@@ -94,7 +94,7 @@ pub fn moved(j: Job, next: usize) -> Job
 }
 
 // The step is done, and the job has this label and source.
-pub fn lowered(j: Job, next: usize, l: Label, h: Label) -> Job
+pub fn lowered(j: StoredJob, next: usize, l: Label, h: Label) -> StoredJob
     requires { ⌜ j .position < 65535 ⌝ }
     ensures { λ x. ⌜ (jobOf x ≡ lowered (jobOf j) l h) × (x .at ≡ next) ⌝ }
 {
@@ -107,7 +107,7 @@ pub fn lowered(j: Job, next: usize, l: Label, h: Label) -> Job
 }
 
 // The step is done, and register r has this value.
-pub fn gets(j: Job, next: usize, r: u8, v: Stored) -> Job
+pub fn gets(j: StoredJob, next: usize, r: u8, v: Stored) -> StoredJob
     requires { ⌜ j .position < 65535 ⌝ }
     ensures { λ x. ⌜ (jobOf x ≡ gets sources (jobOf j) r (valueIn v) (v .source)) × (x .at ≡ next) ⌝ }
 {
@@ -122,7 +122,7 @@ pub fn gets(j: Job, next: usize, r: u8, v: Stored) -> Job
 }
 
 // The step is done, and register r names the cell k, with the job's history.
-pub fn names(j: Job, next: usize, r: u8, k: usize) -> Job
+pub fn names(j: StoredJob, next: usize, r: u8, k: usize) -> StoredJob
     requires { ⌜ (j .position < 65535) × (k ≤ 64) ⌝ }
     ensures { λ x. ⌜ (jobOf x ≡ gets sources (jobOf j) r (CellName k) (j .source)) × (x .at ≡ next) ⌝ }
 {

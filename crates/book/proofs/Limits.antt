@@ -14,7 +14,7 @@ use Rattle.book.specs.Control.{if_then_else_, those, sweep}
 use Rattle.book.specs.Kinds.{group}
 use Rattle.book.specs.Records.{byteAt, records, inGroup}
 use Rattle.book.specs.Book.{groupOf}
-use Rattle.book.specs.Refusals.{none, counted, tooMany, beyond, countFault}
+use Rattle.book.specs.Refusals.{noTally, counted, tooMany, beyond, countFault}
 use Rattle.book.proofs.Stages.{few-shapes, few-cells, few-blocks, none-few}
 
 abbrev more : Bool → ℕ → ℕ
@@ -75,9 +75,9 @@ module _ (s : List ℕ) where
           }
 
   module _ (h : countFault s ≡ Nowhere) where
-    all : Within none (records s)
+    all : Within noTally (records s)
     unfolding countFault
-    all = within (records s) none none-few h
+    all = within (records s) noTally none-few h
 
     pub most-shapes : length (groupOf s 2) ≤ 32
     unfolding groupOf

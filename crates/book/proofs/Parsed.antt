@@ -16,7 +16,7 @@ use Rattle.book.specs.Control.{if_then_else_, those, while, sweep}
 use Rattle.book.specs.Kinds.{group}
 use Rattle.book.specs.Records.{byteAt, next, records, recordsFrom, inGroup}
 use Rattle.book.specs.Book.{Book, Block, groupOf, cellsOf, blocksOf, stepsFrom, declaredAt, stepAt, blockAt, parse}
-use Rattle.book.specs.Refusals.{inOrder, misplaced, orderFault, none, counted, tooMany, beyond, countFault, cellNamed, stepNamed, dangling, dangles, hasCellShape, nameFault, unreadable}
+use Rattle.book.specs.Refusals.{inOrder, misplaced, orderFault, noTally, counted, tooMany, beyond, countFault, cellNamed, stepNamed, dangling, dangles, hasCellShape, nameFault, unreadable}
 use Rattle.book.proofs.Tests.{clash}
 use Rattle.book.proofs.Every.{All, Passing, all-both, mapped, those-all, while-all}
 use Rattle.book.proofs.Groups.{group-most, is-cell, is-step, block-span}
@@ -140,7 +140,7 @@ module _ (s : List ℕ) (r : Readable s) where
   blocks-sound =
       mapped _ _ (blockAt s) (λ o h. h) (blocksOf s)
       (all-both _ _ (λ o. SoundBlock (parse s) (blockAt s o)) (λ o f n. record { few = omega (arith, few-in s o f, length-map (stepsFrom s (o + 2)) (stepAt s)); named = steps-in s _ _ _ o n })
-      (blocksOf s) (those-all _ (inGroup s 4) (records s) (cleared _ _ _ s none 0 (pass-whole s (r .whole)) (r .few))) (those-all _ (inGroup s 4) (records s) named))
+      (blocksOf s) (those-all _ (inGroup s 4) (records s) (cleared _ _ _ s noTally 0 (pass-whole s (r .whole)) (r .few))) (those-all _ (inGroup s 4) (records s) named))
 
 pub sound : (s : List ℕ) → unreadable s ≡ Passed → Sound (parse s)
 sound s e =

@@ -15,7 +15,7 @@ use Rattle.book.specs.declared.Tally.{Tally}
 use Rattle.book.specs.Control.{first}
 use Rattle.book.specs.Kinds.{span, group}
 use Rattle.book.specs.Records.{byteAt, cut, recordsFrom}
-use Rattle.book.specs.Refusals.{cutFault, inOrder, misplaced, orderFault, none, counted, tooMany, beyond, countFault, outOfRange, rangeFault}
+use Rattle.book.specs.Refusals.{cutFault, inOrder, misplaced, orderFault, noTally, counted, tooMany, beyond, countFault, outOfRange, rangeFault}
 use Rattle.book.specs.Asked.{Clear, Fixed, Fit}
 use Rattle.book.proofs.Spans.{uncut, uncut-inside, fault-more}
 use Rattle.book.proofs.Sweep.{sweep-past}
@@ -48,7 +48,7 @@ pub record Screened (s : List ℕ) (o p : ℕ) (n : Tally) : Type 0 where
   pub counts : beyond s n (recordsFrom s o) ≡ countFault s
   pub ranges : first (outOfRange s) (recordsFrom s o) ≡ rangeFault s
 
-pub screen-start : (s : List ℕ) → Screened s 0 0 none
+pub screen-start : (s : List ℕ) → Screened s 0 0 noTally
 screen-start s =
     record {
       inside = omega arith;

@@ -15,7 +15,7 @@ use Rattle.book.specs.declared.Tally.{Tally}
 use Rattle.book.specs.Control.{both, either, first}
 use Rattle.book.specs.Kinds.{span, group}
 use Rattle.book.specs.Records.{byteAt, next, cut, recordsFrom}
-use Rattle.book.specs.Refusals.{cutFault, inOrder, misplaced, orderFault, none, counted, tooMany, beyond, countFault, outOfRange, rangeFault}
+use Rattle.book.specs.Refusals.{cutFault, inOrder, misplaced, orderFault, noTally, counted, tooMany, beyond, countFault, outOfRange, rangeFault}
 use Rattle.book.specs.Asked.{Whole}
 use Rattle.book.proofs.Tests.{either-left, either-right}
 use Rattle.book.proofs.Spans.{cut-kind, cut-body, uncut, fault-end, fault-cut, fault-more}
@@ -153,11 +153,11 @@ module _ (n : Tally) where
 
 pub ruleset crowds = (many-shapes, many-cells, many-blocks, many-steps)
 
-pub count-start : (s : List ℕ) → beyond s none (recordsFrom s 0) ≡ countFault s
+pub count-start : (s : List ℕ) → beyond s noTally (recordsFrom s 0) ≡ countFault s
 unfolding countFault
 count-start s = refl
 
-pub none-few : tooMany none ≡ false
+pub none-few : tooMany noTally ≡ false
 unfolding tooMany either
 none-few = refl
 

@@ -43,8 +43,8 @@ unfoldable pub orderFault : List ℕ → Fault
 orderFault s = misplaced s noGroup (records s)
 
 -- 4: how many shapes, cells and blocks stand so far, and how many steps in the block
-abbrev pub none : Tally
-none = record { shapes = 0; cells = 0; blocks = 0; steps = 0 }
+abbrev pub noTally : Tally
+noTally = record { shapes = 0; cells = 0; blocks = 0; steps = 0 }
 
 unfoldable pub counted : Tally → ℕ → Tally
 counted n g =
@@ -63,7 +63,7 @@ beyond s n os =
     sweep (λ n o. tooMany (counted n (group (byteAt s o)))) (λ n o. counted n (group (byteAt s o))) (λ n. Nowhere) n os
 
 unfoldable pub countFault : List ℕ → Fault
-countFault s = beyond s none (records s)
+countFault s = beyond s noTally (records s)
 
 -- 5: a field, from the byte at i on, is above its largest value
 unfoldable pub above : List ℕ → ℕ → List ℕ → Bool

@@ -16,11 +16,11 @@ bookA trust label bound last =
     ∷ last
 
 -- write 0, 1; relabel 0 to a label; new 2, shape 1, 1
-abbrev pub write : List ℕ
-write = 0x46 ∷ 0x00 ∷ 0x01 ∷ []
+abbrev pub lastWrite : List ℕ
+lastWrite = 0x46 ∷ 0x00 ∷ 0x01 ∷ []
 
-abbrev pub relabel : ℕ → List ℕ
-relabel o = 0x47 ∷ 0x00 ∷ o ∷ []
+abbrev pub lastRelabel : ℕ → List ℕ
+lastRelabel o = 0x47 ∷ 0x00 ∷ o ∷ []
 
-abbrev pub new : List ℕ
-new = 0x44 ∷ 0x02 ∷ 0x01 ∷ 0x01 ∷ []
+abbrev pub lastNew : List ℕ
+lastNew = 0x44 ∷ 0x02 ∷ 0x01 ∷ 0x01 ∷ []

@@ -20,7 +20,7 @@ use Rattle.book.proofs.Part.{parted}
 use Rattle.book.proofs.Stretches.{block, blocks, bound-is, a-is, part-is}
 use Rattle.typing.specs.declared.State.{State}
 use Rattle.typing.specs.Shapes.{View}
-use Rattle.typing.specs.Rules.{Typed, passes, stuck, breaks, fresh, step, fault}
+use Rattle.typing.specs.Rules.{Typed, passes, stuck, breaks, fresh, stepRule, fault}
 use Rattle.typing.specs.Verdict.{orThen, blockFault, stepFault}
 use Rattle.checking.specs.Asked.{shifted, stretchFault}
 
@@ -28,7 +28,7 @@ module _ (B : View) (at to : ℕ → Step) (a : ℕ) where
   fault-shift : (xs : List ℕ) (t : State) → map at xs ≡ map to (map (λ x. a + x) xs) → shifted a (fault B at t xs) ≡ fault B to t (map (λ x. a + x) xs)
   unfolding fault shifted
   fault-shift [] t e = refl
-  fault-shift (x ∷ xs) t e = go (step B t (at x)) refl (fault-shift xs)
+  fault-shift (x ∷ xs) t e = go (stepRule B t (at x)) refl (fault-shift xs)
     where
       here : at x ≡ to (a + x)
       here = cc
@@ -36,12 +36,12 @@ module _ (B : View) (at to : ℕ → Step) (a : ℕ) where
       rest : map at xs ≡ map to (map (λ x. a + x) xs)
       rest = cc
 
-      go : (y : Typed) → step B t (at x) ≡ y
+      go : (y : Typed) → stepRule B t (at x) ≡ y
           → ((t : State) → map at xs ≡ map to (map (λ x. a + x) xs) → shifted a (fault B at t xs) ≡ fault B to t (map (λ x. a + x) xs))
           → shifted a (fault B at t (x ∷ xs)) ≡ fault B to t ((a + x) ∷ map (λ x. a + x) xs)
-      go (passes u) q r = let p : step B t (to (a + x)) ≡ passes u = ap (step B t) (sym here) ∙ q in simp (fault, q, p) (r u rest)
-      go stuck q r = let p : step B t (to (a + x)) ≡ stuck = ap (step B t) (sym here) ∙ q in simp (fault, q, p)
-      go breaks q r = let p : step B t (to (a + x)) ≡ breaks = ap (step B t) (sym here) ∙ q in simp (fault, q, p)
+      go (passes u) q r = let p : stepRule B t (to (a + x)) ≡ passes u = ap (stepRule B t) (sym here) ∙ q in simp (fault, q, p) (r u rest)
+      go stuck q r = let p : stepRule B t (to (a + x)) ≡ stuck = ap (stepRule B t) (sym here) ∙ q in simp (fault, q, p)
+      go breaks q r = let p : stepRule B t (to (a + x)) ≡ breaks = ap (stepRule B t) (sym here) ∙ q in simp (fault, q, p)
 
 -- block i, which starts at a and is l long
 module _ (s bounds starts lengths : List ℕ) (u : Laid s bounds starts lengths) (i : ℕ) (h : i < length bounds) (a l : ℕ) (ea : a ≡ getD starts i 0)

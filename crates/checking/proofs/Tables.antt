@@ -27,10 +27,10 @@ use Rattle.typing.specs.declared.Verdict.{Verdict}
 use Rattle.typing.specs.declared.Verdict.the-variants.{Accepted, Refused}
 use Rattle.typing.specs.Shapes.{View, viewOf}
 use Rattle.typing.specs.Verdict.{cellFault, stepFault, orRefused, typed, verdictOf, verdict}
-use Rattle.typing.specs.Asked.{labelled, tableView}
+use Rattle.typing.specs.Asked.{asLabel, tableView}
 
-bound-get : (s l : List ℕ) (b : ℕ) → labelled (getElem? (map (boundAt s) l) b) ≡ getElem? (map (λ (b : Block). b .bound) (map (blockAt s) l)) b
-unfolding labelled blockAt
+bound-get : (s l : List ℕ) (b : ℕ) → asLabel (getElem? (map (boundAt s) l) b) ≡ getElem? (map (λ (b : Block). b .bound) (map (blockAt s) l)) b
+unfolding asLabel blockAt
 bound-get s [] b = refl
 bound-get s (x ∷ xs) zero = refl
 bound-get s (x ∷ xs) (suc b) = bound-get s xs b
@@ -47,7 +47,7 @@ module _ (s : List ℕ) (e : unreadable s ≡ Passed) (t : Outline) (et : t ≡ 
       (ap (λ (t : Outline). t .c) et)
       (fun-ext (shape-is s e t et))
       (ap getElem? (owners-are s e t et ∙ sym (map-map (λ (d : Declared). d .shape) (declaredAt s) (cellsOf s))))
-      (fun-ext (λ b. ap (λ (l : List ℕ). labelled (getElem? l b)) (bounds-are s e t et) ∙ bound-get s (blocksOf s) b))
+      (fun-ext (λ b. ap (λ (l : List ℕ). asLabel (getElem? l b)) (bounds-are s e t et) ∙ bound-get s (blocksOf s) b))
 
   module _ (x : Fault) (ex : x ≡ cellFault (tableView (t .c) (t .shape) (take (t .counts .cells - 0) (drop 0 (t .shaped))) (take (t .counts .blocks - 0) (drop 0 (t .bound)))) s (take (t .counts .cells - 0) (drop 0 (t .cell)))) where
     cell-fault : cellFault (viewOf (parse s)) s (cellsOf s) ≡ x

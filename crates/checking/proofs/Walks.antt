@@ -24,7 +24,7 @@ use Rattle.typing.specs.declared.Register.{Register}
 use Rattle.typing.specs.declared.Stepped.{Stepped}
 use Rattle.typing.specs.declared.Stepped.the-variants.{Passes, Gives, Lowers, Stuck, Breaks}
 use Rattle.typing.specs.Shapes.{View}
-use Rattle.typing.specs.Rules.{Typed, passes, stuck, breaks, fresh, step, fault}
+use Rattle.typing.specs.Rules.{Typed, passes, stuck, breaks, fresh, stepRule, fault}
 use Rattle.typing.specs.Asked.{told}
 use Rattle.checking.specs.Asked.{shifted, stretchFault}
 
@@ -68,9 +68,9 @@ module _ (B : View) (w : List ℕ) (s : State) (o : ℕ) (z : Fault) (inv : faul
       pub walk-falls : length w - n < length w - o
       walk-falls = let k = walk w o whole h in omega (arith, k .spanned, k .inside, stood .on)
 
-      module _ (y : Stepped) (ey : told s y ≡ step B s p) where
-        here : (t : Typed) → told s y ≡ t → step B s (stepAt w o) ≡ t
-        here t q = ap (step B s) (sym (stood .is)) ∙ sym ey ∙ q
+      module _ (y : Stepped) (ey : told s y ≡ stepRule B s p) where
+        here : (t : Typed) → told s y ≡ t → stepRule B s (stepAt w o) ≡ t
+        here t q = ap (stepRule B s) (sym (stood .is)) ∙ sym ey ∙ q
 
         passed : (u : State) → told s y ≡ passes u → fault B (stepAt w) u (stepsFrom w n) ≡ z
         unfolding fault

@@ -11,12 +11,12 @@ use lib.ListN.{length}
 use borrow.Author.Tests.{ltb-false}
 use Rattle.book.specs.declared.Refusal.the-variants.{Passed, Refused}
 use Rattle.book.proofs.Bounds.{Placed, sweep-clean, offsets-below, stage, none-refused}
-use Rattle.events.specs.Bytes.{span, eventFault, unplayable}
+use Rattle.events.specs.Bytes.{eventSpan, eventFault, unplayable}
 
 module _ (s : List ℕ) where
   fault-placed : Placed (length s) (eventFault s)
   unfolding eventFault
-  fault-placed = sweep-clean _ _ (length s) (offsets-below span s 0) tt
+  fault-placed = sweep-clean _ _ (length s) (offsets-below eventSpan s 0) tt
 
   pub unplayed-short : (n o : ℕ) → unplayable s ≡ Refused n o → o ≤ 65536
   unfolding unplayable

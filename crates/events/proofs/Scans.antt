@@ -20,36 +20,36 @@ use Rattle.book.proofs.Spans as by
 use Rattle.machine.specs.declared.Event.the-variants.{StepOf, WriteBy, RelabelBy, NewBy, ExecBy, StartBy}
 use Rattle.events.specs.declared.Scanned.{Scanned}
 use Rattle.events.specs.Asked.{Steps}
-use Rattle.events.specs.Bytes.{span, next, cut, offsetsFrom, eventAt, eventsFrom, eventFault, unplayable, refusedScan, scanOf, scanned}
+use Rattle.events.specs.Bytes.{eventSpan, nextEvent, eventCut, offsetsFrom, eventAt, eventsFrom, eventFault, unplayable, refusedScan, scanOf, scanned}
 
 -- the bytes of each kind
 module _ (k : ℕ) where
-  pub span-80 : k ≡ 80 → 2 ≡ span k
-  unfolding span
+  pub span-80 : k ≡ 80 → 2 ≡ eventSpan k
+  unfolding eventSpan
   span-80 e = simp e
 
-  pub span-81 : k ≡ 81 → 8 ≡ span k
-  unfolding span
+  pub span-81 : k ≡ 81 → 8 ≡ eventSpan k
+  unfolding eventSpan
   span-81 e = simp e
 
-  pub span-82 : k ≡ 82 → 4 ≡ span k
-  unfolding span
+  pub span-82 : k ≡ 82 → 4 ≡ eventSpan k
+  unfolding eventSpan
   span-82 e = simp e
 
-  pub span-83 : k ≡ 83 → 8 ≡ span k
-  unfolding span
+  pub span-83 : k ≡ 83 → 8 ≡ eventSpan k
+  unfolding eventSpan
   span-83 e = simp e
 
-  pub span-84 : k ≡ 84 → 3 ≡ span k
-  unfolding span
+  pub span-84 : k ≡ 84 → 3 ≡ eventSpan k
+  unfolding eventSpan
   span-84 e = simp e
 
-  pub span-85 : k ≡ 85 → 3 ≡ span k
-  unfolding span
+  pub span-85 : k ≡ 85 → 3 ≡ eventSpan k
+  unfolding eventSpan
   span-85 e = simp e
 
-  pub span-none : (k ≡ 80 → ⊥) → (k ≡ 81 → ⊥) → (k ≡ 82 → ⊥) → (k ≡ 83 → ⊥) → (k ≡ 84 → ⊥) → (k ≡ 85 → ⊥) → 0 ≡ span k
-  unfolding span
+  pub span-none : (k ≡ 80 → ⊥) → (k ≡ 81 → ⊥) → (k ≡ 82 → ⊥) → (k ≡ 83 → ⊥) → (k ≡ 84 → ⊥) → (k ≡ 85 → ⊥) → 0 ≡ eventSpan k
+  unfolding eventSpan
   span-none a b c d e f = simp (ne-eqb _ _ a, ne-eqb _ _ b, ne-eqb _ _ c, ne-eqb _ _ d, ne-eqb _ _ e, ne-eqb _ _ f)
 
 pub ruleset spans = (span-80, span-81, span-82, span-83, span-84, span-85, span-none)
@@ -87,34 +87,34 @@ module _ (l : List ℕ) (o x : ℕ) (ex : x ≡ byteAt l (o + 1)) where
 pub ruleset says = (is-step, is-write, is-relabel, is-new, is-exec, is-start)
 
 -- w is the bytes of the event at o
-module _ (l : List ℕ) (o w : ℕ) (q : w ≡ span (byteAt l o)) (h : o < length l) where
-  pub cut-kind : w ≡ 0 → true ≡ cut l o
-  cut-kind e = sym (by.cut-kind span l o (sym q ∙ e))
+module _ (l : List ℕ) (o w : ℕ) (q : w ≡ eventSpan (byteAt l o)) (h : o < length l) where
+  pub cut-kind : w ≡ 0 → true ≡ eventCut l o
+  cut-kind e = sym (by.cut-kind eventSpan l o (sym q ∙ e))
 
-  pub cut-body : length l - o < w → true ≡ cut l o
-  cut-body e = sym (by.cut-body span l o (omega arith))
+  pub cut-body : length l - o < w → true ≡ eventCut l o
+  cut-body e = sym (by.cut-body eventSpan l o (omega arith))
 
-  pub cut-not : (w ≡ 0 → ⊥) → w ≤ length l - o → false ≡ cut l o
-  cut-not e b = sym (by.uncut span l o (λ z. e (q ∙ z)) (omega arith))
+  pub cut-not : (w ≡ 0 → ⊥) → w ≤ length l - o → false ≡ eventCut l o
+  cut-not e b = sym (by.uncut eventSpan l o (λ z. e (q ∙ z)) (omega arith))
 
 -- a step that is whole; a write, which the code asks for by itself
 module _ (l : List ℕ) (o : ℕ) (h : o < length l) where
   module _ (e : byteAt l o ≡ 80) where
-    cut-step-not : 2 ≤ length l - o → false ≡ cut l o
+    cut-step-not : 2 ≤ length l - o → false ≡ eventCut l o
     cut-step-not b = cut-not l o 2 (span-80 _ e) h (λ z. omega (arith, z)) b
 
   module _ (e : byteAt l o ≡ 81) where
-    pub cut-write : length l - o < 8 → true ≡ cut l o
+    pub cut-write : length l - o < 8 → true ≡ eventCut l o
     cut-write b = cut-body l o 8 (span-81 _ e) h b
 
-    pub cut-write-not : 8 ≤ length l - o → false ≡ cut l o
+    pub cut-write-not : 8 ≤ length l - o → false ≡ eventCut l o
     cut-write-not b = cut-not l o 8 (span-81 _ e) h (λ z. omega (arith, z)) b
 
 pub ruleset cuts = (cut-kind, cut-body, cut-not, cut-write, cut-write-not)
 
 -- the offset past a step
-pub next-step : (l : List ℕ) (o : ℕ) → byteAt l o ≡ 80 → o + 2 ≡ next l o
-unfolding span
+pub next-step : (l : List ℕ) (o : ℕ) → byteAt l o ≡ 80 → o + 2 ≡ nextEvent l o
+unfolding eventSpan
 next-step l o e = simp e
 
 -- the scan has come to o, with n events behind
@@ -122,7 +122,7 @@ pub record Scanning (l : List ℕ) (o n : ℕ) : Type 0 where
   pub short : length l ≤ 65536
   pub inside : o ≤ length l
   pub few : n ≤ o
-  pub fault : first (cut l) (offsetsFrom l o) ≡ eventFault l
+  pub fault : first (eventCut l) (offsetsFrom l o) ≡ eventFault l
   pub count : n + length (offsetsFrom l o) ≡ length (eventsFrom l 0)
 
 pub scan-long : (l : List ℕ) (r : Scanned) → 65536 < length l → r ≡ refusedScan 9 0 → r ≡ scanned l
@@ -135,34 +135,34 @@ scan-start l h =
     record { short = h; inside = omega arith; few = omega arith; fault = refl; count = omega (arith, length-map (offsetsFrom l 0) (eventAt l)) }
 
 module _ (l : List ℕ) (o n : ℕ) (k : Scanning l o n) where
-  module _ (b : Bool) (eb : b ≡ cut l o) (h : o < length l) where
+  module _ (b : Bool) (eb : b ≡ eventCut l o) (h : o < length l) where
     pub scan-bad : (r : Scanned) → b ≡ true → r ≡ refusedScan 9 o → r ≡ scanned l
     unfolding unplayable scanOf orRefuse
     scan-bad r e x =
-        let f : At o ≡ eventFault l = by.fault-cut span l o (eventFault l) (k .fault) h (sym eb ∙ e) in
+        let f : At o ≡ eventFault l = by.fault-cut eventSpan l o (eventFault l) (k .fault) h (sym eb ∙ e) in
         x ∙ simp (le-ltb _ _ (k .short), ← f)
 
-    scan-on : (p : ℕ) → b ≡ false → p ≡ next l o → Scanning l p (n + 1)
+    scan-on : (p : ℕ) → b ≡ false → p ≡ nextEvent l o → Scanning l p (n + 1)
     scan-on p e q =
-        let c : cut l o ≡ false = sym eb ∙ e in
-        let m : length (offsetsFrom l o) ≡ length (offsetsFrom l (next l o)) + 1 = ap length (by.offsets-more span l o h c) ∙ omega arith in
+        let c : eventCut l o ≡ false = sym eb ∙ e in
+        let m : length (offsetsFrom l o) ≡ length (offsetsFrom l (nextEvent l o)) + 1 = ap length (by.offsets-more eventSpan l o h c) ∙ omega arith in
         rw q
         (record {
           short = k .short;
-          inside = by.uncut-inside span l o c;
-          few = omega (arith, k .few, by.uncut-span span l o c);
-          fault = by.fault-more span l o (eventFault l) (k .fault) h c;
+          inside = by.uncut-inside eventSpan l o c;
+          few = omega (arith, k .few, by.uncut-span eventSpan l o c);
+          fault = by.fault-more eventSpan l o (eventFault l) (k .fault) h c;
           count = omega (arith, k .count);
         })
 
-    scan-falls : (p : ℕ) → b ≡ false → p ≡ next l o → length l - p < length l - o
-    scan-falls p e q = let c : cut l o ≡ false = sym eb ∙ e in omega (arith, by.uncut-span span l o c, by.uncut-inside span l o c)
+    scan-falls : (p : ℕ) → b ≡ false → p ≡ nextEvent l o → length l - p < length l - o
+    scan-falls p e q = let c : eventCut l o ≡ false = sym eb ∙ e in omega (arith, by.uncut-span eventSpan l o c, by.uncut-inside eventSpan l o c)
 
   pub scan-end : length l ≤ o → _≡_ {A = Scanned} (record { refusal = Passed; count = n }) (scanned l)
   unfolding unplayable scanOf orRefuse
   scan-end h =
-      let f : Nowhere ≡ eventFault l = by.fault-end span l o (eventFault l) (k .fault) h in
-      let z : length (offsetsFrom l o) ≡ 0 = ap length (by.offsets-end span l o h) in
+      let f : Nowhere ≡ eventFault l = by.fault-end eventSpan l o (eventFault l) (k .fault) h in
+      let z : length (offsetsFrom l o) ≡ 0 = ap length (by.offsets-end eventSpan l o h) in
       let m : n ≡ length (eventsFrom l 0) = omega (arith, k .count) in
       simp (le-ltb _ _ (k .short), ← f, m)
 
@@ -205,7 +205,7 @@ pub scan-begin : (l : List ℕ) (o m : ℕ) → length l ≤ 65536 → Steps l 0
 scan-begin l o m h k = let z : 0 + m ≡ m = omega arith in rw z at (scan-past l m o 0 0 k (scan-start l h))
 
 -- a turn: an event, and the steps behind it, up to the offset at
-module _ (l : List ℕ) (o n : ℕ) (k : Scanning l o n) (b : Bool) (eb : b ≡ cut l o) (h : o < length l) (e : b ≡ false) (p : ℕ) (q : p ≡ next l o) where
+module _ (l : List ℕ) (o n : ℕ) (k : Scanning l o n) (b : Bool) (eb : b ≡ eventCut l o) (h : o < length l) (e : b ≡ false) (p : ℕ) (q : p ≡ nextEvent l o) where
   pub turn-room : (p ≤ length l) × (length l ≤ 65536)
   turn-room = (scan-on l o n k b eb h p e q .inside, k .short)
 

@@ -16,12 +16,12 @@ use Rattle.book.specs.declared.Refusal.the-variants.{Passed, Refused}
 use Rattle.book.specs.Control.{first}
 use Rattle.book.specs.Refusals.{orRefuse}
 use Rattle.book.proofs.Spans as by
-use Rattle.events.specs.Bytes.{span, next, cut, offsetsFrom, eventAt, eventsFrom, eventFault, unplayable}
+use Rattle.events.specs.Bytes.{eventSpan, nextEvent, eventCut, offsetsFrom, eventAt, eventsFrom, eventFault, unplayable}
 
 -- o is inside the list, and from o on every event is whole
 pub record Whole (l : List ℕ) (o : ℕ) : Type 0 where
   pub inside : o ≤ length l
-  pub unfailing : first (cut l) (offsetsFrom l o) ≡ Nowhere
+  pub unfailing : first (eventCut l) (offsetsFrom l o) ≡ Nowhere
 
 pub whole-start : (l : List ℕ) → eventFault l ≡ Nowhere → Whole l 0
 unfolding eventFault
@@ -47,19 +47,19 @@ passed-short l e = long (ltb 65536 (length l)) refl
 
 pub events-end : (l : List ℕ) (o : ℕ) → length l ≤ o → eventsFrom l o ≡ []
 unfolding eventsFrom
-events-end l o h = simp (by.offsets-end span l o h)
+events-end l o h = simp (by.offsets-end eventSpan l o h)
 
 -- the event at o is whole, and so are those after it
 pub record Walked (l : List ℕ) (o : ℕ) : Type 0 where
-  pub further : o < next l o
-  pub inside : next l o ≤ length l
-  pub events : eventsFrom l o ≡ eventAt l o ∷ eventsFrom l (next l o)
-  pub rest : Whole l (next l o)
+  pub further : o < nextEvent l o
+  pub inside : nextEvent l o ≤ length l
+  pub events : eventsFrom l o ≡ eventAt l o ∷ eventsFrom l (nextEvent l o)
+  pub rest : Whole l (nextEvent l o)
 
 pub walk : (l : List ℕ) (o : ℕ) → Whole l o → o < length l → Walked l o
 unfolding eventsFrom
 walk l o w h =
-    let k = by.walk span l o (w .unfailing) h in
+    let k = by.walk eventSpan l o (w .unfailing) h in
     record {
       further = omega (arith, k .spanned);
       inside = k .inside;

@@ -1,7 +1,7 @@
 -- The event list as bytes: 01, "The machine", and refusal 9.
 --     stepEvent, .., startEvent, maxListBytes    the kinds of event; how long a list may be
---     span                                       the bytes of an event of a kind
---     next, cut, offsetsFrom                     the events by their offsets
+--     eventSpan                                       the bytes of an event of a kind
+--     nextEvent, eventCut, offsetsFrom                     the events by their offsets
 --     eventAt, eventsFrom, eventsIn              what they say
 --     eventFault, unplayable, scanned            refusal 9, and what the scan of a list hands back
 -- Assumes nothing.
@@ -46,8 +46,8 @@ abbrev pub maxListBytes : ℕ
 maxListBytes = 65536
 
 -- "Events, laid out as records are (kind byte, then one-byte fields, a number of 4)". 0 for a kind that is none.
-unfoldable pub span : ℕ → ℕ
-span k =
+unfoldable pub eventSpan : ℕ → ℕ
+eventSpan k =
     if eqb k stepEvent then 2
     else if eqb k writeEvent then 8
     else if eqb k relabelEvent then 4
@@ -57,16 +57,16 @@ span k =
     else 0
 
 -- the offset past the event at o
-abbrev pub next : List ℕ → ℕ → ℕ
-next list o = nextBy span list o
+abbrev pub nextEvent : List ℕ → ℕ → ℕ
+nextEvent list o = nextBy eventSpan list o
 
 -- the event at o "has an unknown kind or a cut body"
-abbrev pub cut : List ℕ → ℕ → Bool
-cut list o = cutBy span list o
+abbrev pub eventCut : List ℕ → ℕ → Bool
+eventCut list o = cutBy eventSpan list o
 
 -- the events from o on, up to one that is cut
 abbrev pub offsetsFrom : List ℕ → ℕ → List ℕ
-offsetsFrom list o = offsetsBy span list o
+offsetsFrom list o = offsetsBy eventSpan list o
 
 -- "80 step job; by an outsider at label Q: 81 write Q, cell, value kind, number; 82 relabel Q, cell, label; 83 new Q, shape, value kind,
 -- number; 84 exec Q, cell; 85 start Q, block."
@@ -93,7 +93,7 @@ eventsIn list = eventsFrom list 0
 
 -- "the place is the offset of the first record at fault (in the event list for 9 ..)"
 unfoldable pub eventFault : List ℕ → Fault
-eventFault list = first (cut list) (offsetsFrom list 0)
+eventFault list = first (eventCut list) (offsetsFrom list 0)
 
 -- 9: "The event list exceeds 65,536 bytes (place 0), or has an unknown kind or a cut body."
 unfoldable pub unplayable : List ℕ → Refusal

@@ -7,7 +7,7 @@ ghost use mathlib.Core.Path.{_≡_};
 ghost use Prim.Native.Nat.{_<_, _≤_};
 ghost use lib.ListN.{length};
 ghost use Rattle.events.specs.Asked.{Steps};
-ghost use Rattle.events.specs.Bytes.{span, next, cut, eventAt, refusedScan, scanned};
+ghost use Rattle.events.specs.Bytes.{eventSpan, nextEvent, eventCut, eventAt, refusedScan, scanned};
 
 // What the scan of an event list gives: its refusal by 9, or how many events it has. After a refusal the count is 0.
 pub struct Scanned {
@@ -17,7 +17,7 @@ pub struct Scanned {
 
 // The bytes of an event of a kind; 0 where no event has the kind.
 fn span_of(kind: u8) -> u8
-    ensures { λ r. ⌜ r ≡ span kind ⌝ }
+    ensures { λ r. ⌜ r ≡ eventSpan kind ⌝ }
 {
     if kind == kind::STEP {
         return 2;
@@ -44,7 +44,7 @@ fn span_of(kind: u8) -> u8
 // a look-up before it goes on to the next event.
 fn is_cut(list: &[u8], o: usize) -> bool
     requires { ⌜ o < length (now list) ⌝ }
-    ensures { λ r. ⌜ r ≡ cut (now (list .entry)) o ⌝ }
+    ensures { λ r. ⌜ r ≡ eventCut (now (list .entry)) o ⌝ }
 {
     let k = list[o];
     if k == kind::WRITE {
@@ -66,7 +66,7 @@ fn is_cut(list: &[u8], o: usize) -> bool
 // The offset past the event at an offset.
 pub fn next_event(list: &[u8], o: usize) -> usize
     requires { ⌜ o < length (now list) ⌝ }
-    ensures { λ r. ⌜ r ≡ next (now (list .entry)) o ⌝ }
+    ensures { λ r. ⌜ r ≡ nextEvent (now (list .entry)) o ⌝ }
 {
     let k = list[o];
     let w = span_of(k);

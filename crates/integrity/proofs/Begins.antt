@@ -21,7 +21,7 @@ use Rattle.book.specs.Book.{Book, Block}
 use Rattle.book.proofs.Every.{All}
 use Rattle.book.proofs.Tests.{both-left, both-right}
 use Rattle.typing.specs.declared.Known.the-variants as N
-use Rattle.typing.specs.Shapes.{viewOf, isCell, contentOf, trustOf, highTrust, fits, knownValue, declaredOk}
+use Rattle.typing.specs.Shapes.{viewOf, isCellShape, contentOf, countedTrust, highTrust, fits, knownValue, declaredOk}
 use Rattle.machine.specs.Histories.{sources}
 use Rattle.machine.specs.Events.{blockOf, launchLabel, declared, freshState}
 use Rattle.integrity.proofs.Trees.{Grounded, Tree, cell, tree-cell, tree-trust}
@@ -33,7 +33,7 @@ use Rattle.integrity.proofs.LowActs.{BlocksPass, fresh-ok, low-good}
 pub record Accepted (K : Book) : Type 0 where
   pub sound : Grounded (shapeOf K)
   pub labels : (i : ℕ) → shapeOf K i .trust .0 ≤ 15
-  pub cellular : (i : ℕ) → K .c .0 < shapeOf K i .trust .0 → isCell (K .c) (shapeOf K) i ≡ true
+  pub cellular : (i : ℕ) → K .c .0 < shapeOf K i .trust .0 → isCellShape (K .c) (shapeOf K) i ≡ true
   pub cells : All (λ d. declaredOk (viewOf K) d ≡ true) (K .cells)
   pub blocks : BlocksPass K
 
@@ -70,7 +70,7 @@ module _ (K : Book) (a : Accepted K) where
 
   -- "A declared cell of trust above C needs label at least trust and a fitting value."
   declared-rule : (d : Declared) → declaredOk (viewOf K) d ≡ true → highTrust (K .c) (shapeOf K) (d .shape) ≡ true
-      → both (isMet (trustOf (K .c) (shapeOf K) (d .shape)) (d .label))
+      → both (isMet (countedTrust (K .c) (shapeOf K) (d .shape)) (d .label))
       (fits (K .c) (shapeOf K) (knownValue (getElem? (shapesOf (K .cells))) (getElem? (boundsOf (K .blocks))) (d .value)) (contentOf (K .c) (shapeOf K) (d .shape)))
       ≡ true
   unfolding declaredOk viewOf
@@ -82,12 +82,12 @@ module _ (K : Book) (a : Accepted K) where
   declared-good d e true p t S q =
       let z = tree-trust (K .c) (shapeOf K) (d .shape) t S q in
       let r = declared-rule d e p in
-      let n : trustOf (K .c) (shapeOf K) (d .shape) ≡ shapeOf K (d .shape) .trust = normal-above (K .c) _ (ltb-true _ _ p) in
-      let y : trustOf (K .c) (shapeOf K) (d .shape) .0 ≡ shapeOf K (d .shape) .trust .0 = ap (λ (t : Trust). t .0) n in
+      let n : countedTrust (K .c) (shapeOf K) (d .shape) ≡ shapeOf K (d .shape) .trust = normal-above (K .c) _ (ltb-true _ _ p) in
+      let y : countedTrust (K .c) (shapeOf K) (d .shape) .0 ≡ shapeOf K (d .shape) .trust .0 = ap (λ (t : Trust). t .0) n in
       let l = a .labels (d .shape) in
       let x = tree-cell (K .c) (shapeOf K) (a .sound) (d .shape) (a .cellular (d .shape) (omega facts)) in
       let w : t ≡ treeOf K (contentOf (K .c) (shapeOf K) (d .shape)) = cc in
-      let m : trustOf (K .c) (shapeOf K) (d .shape) .0 ≤ d .label .0 = leb-true _ _ (both-left _ _ r) in
+      let m : countedTrust (K .c) (shapeOf K) (d .shape) .0 ≤ d .label .0 = leb-true _ _ (both-left _ _ r) in
       let h : Has K first (d .value) (treeOf K (contentOf (K .c) (shapeOf K) (d .shape))) =
       fits-has K first (a .sound) (d .value) _ _ (both-right _ _ r) (value-fits (d .value)) in
       record { label = omega arith; source = omega arith; has = λ c. rw w h }

@@ -29,7 +29,7 @@ use Rattle.typing.specs.declared.State.{State}
 use Rattle.typing.specs.declared.Verdict.{Verdict}
 use Rattle.typing.specs.declared.Verdict.the-variants as Verdicts
 use Rattle.typing.specs.Shapes.{View, viewOf, declaredOk}
-use Rattle.typing.specs.Rules.{Typed, passes, stuck, breaks, fresh, step, fault}
+use Rattle.typing.specs.Rules.{Typed, passes, stuck, breaks, fresh, stepRule, fault}
 use Rattle.typing.specs.Verdict.{cellFault, orThen, blockFault, stepFault, orRefused, typed, verdictOf, verdict}
 use Rattle.machine.specs.Events.{noBlock}
 use Rattle.integrity.proofs.Invariant.{passesAll}
@@ -86,10 +86,10 @@ module _ (B : View) (at : ℕ → Step) where
   fault-passes : (os : List ℕ) (t : State) → fault B at t os ≡ Nowhere → passesAll B (map at os) (passes t) ≡ true
   unfolding fault
   fault-passes [] t e = refl
-  fault-passes (o ∷ os) t e = go (step B t (at o)) refl (fault-passes os)
+  fault-passes (o ∷ os) t e = go (stepRule B t (at o)) refl (fault-passes os)
     where
-      go : (x : Typed) → step B t (at o) ≡ x → ((u : State) → fault B at u os ≡ Nowhere → passesAll B (map at os) (passes u) ≡ true)
-          → passesAll B (map at os) (step B t (at o)) ≡ true
+      go : (x : Typed) → stepRule B t (at o) ≡ x → ((u : State) → fault B at u os ≡ Nowhere → passesAll B (map at os) (passes u) ≡ true)
+          → passesAll B (map at os) (stepRule B t (at o)) ≡ true
       go (passes u) h r = rw h (r u (simp (fault, h) at e))
       go stuck h r = rw h (stuck-passes (map at os))
       go breaks h r = somewhere (simp (fault, h) at e)

@@ -15,13 +15,13 @@ use Rattle.machine.specs.declared.Event.{Event}
 use Rattle.machine.specs.declared.Event.the-variants.{StepOf, WriteBy, RelabelBy, NewBy, ExecBy, StartBy}
 use Rattle.machine.specs.Histories.{History, lists}
 use Rattle.machine.specs.States.{Job, State}
-use Rattle.machine.specs.Acts.{writing, relabelling, executing}
-use Rattle.machine.specs.Steps.{lowering, turnOf}
+use Rattle.machine.specs.Acts.{writeAct, relabelAct, execAct}
+use Rattle.machine.specs.Steps.{lowerStep, turnOf}
 use Rattle.machine.specs.Events.{Outcome, tableSize, finished, noSuch, blockOf, unchanged, turnLanded, outcomeOf, stateAfter}
-use Rattle.integrity.specs.Loosened.{writingBy, relabellingBy, executingBy, loweringBy, turnBy, outcomeBy, stateBy, SameMachine}
+use Rattle.integrity.specs.Loosened.{writeActBy, relabelActBy, execActBy, lowerStepBy, turnBy, outcomeBy, stateBy, SameMachine}
 
 pub turn-by : (s : State History) (j : Job History) (p : Step) → turnBy "" s j p ≡ turnOf lists tableSize s j p
-unfolding turnBy writingBy relabellingBy executingBy loweringBy turnOf writing relabelling executing lowering
+unfolding turnBy writeActBy relabelActBy execActBy lowerStepBy turnOf writeAct relabelAct execAct lowerStep
 turn-by s j (Put r n) = refl
 turn-by s j (Name r k) = refl
 turn-by s j (Code r b) = refl
@@ -36,7 +36,7 @@ turn-by s j (Exec w) = refl
 
 module _ (K : Book) where
   pub outcome-by : (s : State History) (e : Event) → outcomeBy "" K s e ≡ outcomeOf lists tableSize K s e
-  unfolding outcomeBy writingBy relabellingBy executingBy outcomeOf writing relabelling executing
+  unfolding outcomeBy writeActBy relabelActBy execActBy outcomeOf writeAct relabelAct execAct
   outcome-by s (StepOf i) =
       λ z. onSome (getElem? (s .jobs) i) (unchanged noSuch s)
       (λ j. onSome (getElem? (blockOf K (j .block) .steps) (j .position)) (unchanged finished s) (λ p. turnLanded s i (turn-by s j p z)))

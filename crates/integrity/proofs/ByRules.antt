@@ -21,12 +21,12 @@ use Rattle.typing.specs.declared.Known.{Known}
 use Rattle.typing.specs.declared.Known.the-variants as N
 use Rattle.typing.specs.declared.State.{State}
 use Rattle.typing.specs.declared.Verdict.the-variants.{Accepted}
-use Rattle.typing.specs.Shapes.{View, viewOf, contentOf, trustOf, highTrust, alikeIn, alike, fits, knownValue, declaredOk}
-use Rattle.typing.specs.Rules.{Typed, passes, stuck, breaks, fresh, holds, lowStep, highStep, step}
+use Rattle.typing.specs.Shapes.{View, viewOf, contentOf, countedTrust, highTrust, alikeIn, alike, fits, knownValue, declaredOk}
+use Rattle.typing.specs.Rules.{Typed, passes, stuck, breaks, fresh, holds, lowRule, highRule, stepRule}
 use Rattle.typing.specs.Rules as R
 use Rattle.typing.specs.Verdict.{verdict}
 use Rattle.machine.specs.Events.{noBlock}
-use Rattle.integrity.specs.Weakened.{alikeBy, fitsBy, declaredBy, stepBy, walkBy, every, acceptedBy, SameRules}
+use Rattle.integrity.specs.Weakened.{alikeBy, fitsBy, declaredBy, stepRuleBy, walkBy, every, acceptedBy, SameRules}
 use Rattle.integrity.proofs.Booleans.{both-true}
 use Rattle.integrity.proofs.Invariant.{passesAll}
 use Rattle.integrity.proofs.Bridge.{accepted}
@@ -48,8 +48,8 @@ pub declared-by : (B : View) (d : Declared) → declaredBy "" B d ≡ declaredOk
 unfolding declaredBy declaredOk
 declared-by B d = rw (fits-by (B .c) (B .shape) (knownValue (B .cell) (B .bound) (d .value)) (contentOf (B .c) (B .shape) (d .shape))) refl
 
-pub step-by : (B : View) (t : State) (p : Step) → stepBy "" B t p ≡ step B t p
-unfolding stepBy step lowStep highStep holds R.lowering
+pub step-by : (B : View) (t : State) (p : Step) → stepRuleBy "" B t p ≡ stepRule B t p
+unfolding stepRuleBy stepRule lowRule highRule holds R.lowerRule
 step-by B t (Put r n) = refl
 step-by B t (Name r k) = refl
 step-by B t (Code r b) = refl
@@ -58,16 +58,16 @@ step-by B t (New r i a) = rw (fits-by (B .c) (B .shape) (R.known (B .c) t a) (co
 step-by B t (Read r w) = refl
 step-by B t (Write w a) =
     λ z. if R.isLow (B .c) (t .p) then passes t
-    else R.onCell (R.known (B .c) t w)
-    (λ i. R.free (isMet (trustOf (B .c) (B .shape) i) (t .p))
-    (R.need
+    else R.onKnownCell (R.known (B .c) t w)
+    (λ i. R.stuckUnless (isMet (countedTrust (B .c) (B .shape) i) (t .p))
+    (R.breaksUnless
     (either (not (highTrust (B .c) (B .shape) i))
-    (both (fits-by (B .c) (B .shape) (R.known (B .c) t a) (contentOf (B .c) (B .shape) i) z) (isMet (trustOf (B .c) (B .shape) i) (R.used t a))))
+    (both (fits-by (B .c) (B .shape) (R.known (B .c) t a) (contentOf (B .c) (B .shape) i) z) (isMet (countedTrust (B .c) (B .shape) i) (R.used t a))))
     (passes t)))
 step-by B t (Relabel w o) = refl
 step-by B t (Lower q) = go (R.isLow (B .c) (t .p))
   where
-    go : (b : Bool) → R.lowering (B .c) t q ≡ (if b then R.lowering (B .c) t q else R.lowering (B .c) t q)
+    go : (b : Bool) → R.lowerRule (B .c) t q ≡ (if b then R.lowerRule (B .c) t q else R.lowerRule (B .c) t q)
     go true = refl
     go false = refl
 step-by B t (Start b) = refl
@@ -80,7 +80,7 @@ walk-by B [] stuck = refl
 walk-by B [] (passes t) = refl
 walk-by B (p ∷ ps) breaks = refl
 walk-by B (p ∷ ps) stuck = refl
-walk-by B (p ∷ ps) (passes t) = walk-by B ps (stepBy "" B t p) ∙ ap (passesAll B ps) (step-by B t p)
+walk-by B (p ∷ ps) (passes t) = walk-by B ps (stepRuleBy "" B t p) ∙ ap (passesAll B ps) (step-by B t p)
 
 all-every : {A : Type 0} (f : A → Bool) (l : List A) → All (λ a. f a ≡ true) l → every f l ≡ true
 unfolding every

@@ -21,17 +21,17 @@ use Rattle.book.specs.declared.Refusal.the-variants.{Passed}
 use Rattle.typing.specs.declared.Verdict.{Verdict}
 use Rattle.typing.specs.declared.Verdict.the-variants.{Accepted, Refused}
 use Rattle.typing.specs.Shapes.{viewOf, alikeIn, alike, knownOf, fits, knownValue, declaredOk}
-use Rattle.typing.specs.Rules.{need, free, isPlainly, fresh, known, addable, holds, lowStep, highStep, step, fault}
+use Rattle.typing.specs.Rules.{breaksUnless, stuckUnless, isPlainly, fresh, known, addable, holds, lowRule, highRule, stepRule, fault}
 use Rattle.typing.specs.Rules as R
 use Rattle.typing.specs.Verdict.{cellFault, orThen, blockFault, stepFault, orRefused, typed, verdictOf, verdict}
 use Rattle.machine.specs.declared.Event.{Event}
 use Rattle.machine.specs.declared.Event.the-variants.{StepOf, WriteBy, RelabelBy, NewBy, ExecBy, StartBy}
 use Rattle.machine.specs.Control.{given, onPlain, onCell, onCode}
-use Rattle.machine.specs.Acts.{execLabel, writing, relabelling, making, starting, executing}
-use Rattle.machine.specs.Steps.{sum, adding, reading, lowering, turnOf}
+use Rattle.machine.specs.Acts.{execLabel, writeAct, relabelAct, newAct, startAct, execAct}
+use Rattle.machine.specs.Steps.{sum, addStep, readStep, lowerStep, turnOf}
 use Rattle.machine.specs.Histories.{lists}
 use Rattle.machine.specs.Events.{tableSize, launchLabel, freshState, landed, turnLanded, outcomeOf, stateAfter}
-use Rattle.integrity.specs.Weakened.{alikeBy, fitsBy, declaredBy, stepBy, walkBy, every, acceptedBy, Needed}
+use Rattle.integrity.specs.Weakened.{alikeBy, fitsBy, declaredBy, stepRuleBy, walkBy, every, acceptedBy, Needed}
 use Rattle.integrity.specs.Loosened as L
 use Rattle.integrity.specs.Loosened.{turnBy, outcomeBy, stateBy, NeededThere}
 use Rattle.integrity.specs.EachNeeded.{EachNeeded}
@@ -84,10 +84,10 @@ needed-there bytes events shapes cells blocks steps accepted e =
     }
 
 pub each-needed : EachNeeded
-unfolding lower normal capped both either valueOf valueNamed viewOf onSome alikeIn alike knownOf fits knownValue declaredOk need free R.onCell R.onCode
-    isPlainly fresh known R.lowering addable holds lowStep highStep step given onPlain onCell onCode execLabel writing relabelling making starting
-    executing sum adding reading lowering turnOf landed turnLanded outcomeOf stateAfter alikeBy fitsBy declaredBy stepBy walkBy every acceptedBy
-    L.writingBy L.relabellingBy L.executingBy L.loweringBy turnBy outcomeBy stateBy cellHolds jobHolds sentencesHold those while sweep span limits group
+unfolding lower normal capped both either valueOf valueNamed viewOf onSome alikeIn alike knownOf fits knownValue declaredOk breaksUnless stuckUnless R.onKnownCell R.onKnownCode
+    isPlainly fresh known R.lowerRule addable holds lowRule highRule stepRule given onPlain onCell onCode execLabel writeAct relabelAct newAct startAct
+    execAct sum addStep readStep lowerStep turnOf landed turnLanded outcomeOf stateAfter alikeBy fitsBy declaredBy stepRuleBy walkBy every acceptedBy
+    L.writeActBy L.relabelActBy L.execActBy L.lowerStepBy turnBy outcomeBy stateBy cellHolds jobHolds sentencesHold those while sweep span limits group
     numberAt cutBy offsetsIn offsetsBy groupOf stepsFrom shapeAt declaredAt stepAt blockAt parse cutFault inOrder misplaced orderFault counted tooMany
     beyond countFault above outOfRange rangeFault cellNamed stepNamed dangling dangles nameFault orRefuse unreadable stepCount fault cellFault orThen
     blockFault stepFault orRefused typed verdictOf

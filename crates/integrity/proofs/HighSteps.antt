@@ -18,13 +18,13 @@ use Rattle.book.specs.Book.{Book, Block}
 use Rattle.book.proofs.Tests.{clash, both-left, both-right, either-left, either-right}
 use Rattle.typing.specs.declared.Known.the-variants as N
 use Rattle.typing.specs.declared.State as T
-use Rattle.typing.specs.Shapes.{isCell, contentOf, trustOf, highTrust, knownOf}
+use Rattle.typing.specs.Shapes.{isCellShape, contentOf, countedTrust, highTrust, knownOf}
 use Rattle.typing.specs.Rules.{known, isLow, holds, used}
 use Rattle.typing.specs.Rules as R
 use Rattle.machine.specs.Histories.{sources}
 use Rattle.machine.specs.States.{Cell, Job, State}
-use Rattle.machine.specs.Acts.{keep, create, execLabel, freshJob, acted, writing, relabelling, making, starting, executing}
-use Rattle.machine.specs.Steps.{register, gets, giving, moved, through, adding, reading, lowering}
+use Rattle.machine.specs.Acts.{keep, create, execLabel, freshJob, acted, writeAct, relabelAct, newAct, startAct, execAct}
+use Rattle.machine.specs.Steps.{register, gets, giving, moved, through, addStep, readStep, lowerStep}
 use Rattle.machine.specs.Events.{blockOf}
 use Rattle.integrity.proofs.Booleans.{both-true, either-second, not-false}
 use Rattle.integrity.proofs.Trees.{Grounded, code, tree-cell}
@@ -43,20 +43,20 @@ module _ (K : Book) (size : ℕ) (s : State Label) (v : Invariant K s) (ok : Gro
   put-ok r n = own-ok K s j t m r N.Plain (Plain n) keep keep-ok (λ i e. cc) tt
 
   pub name-ok : (r k : ℕ)
-      → StepOk K (s .cells) j (R.naming (K .c) (shapeOf K) t r (getElem? (map (λ (d : Declared). d .shape) (K .cells)) k)) (giving sources j r (CellName k))
+      → StepOk K (s .cells) j (R.nameRule (K .c) (shapeOf K) t r (getElem? (map (λ (d : Declared). d .shape) (K .cells)) k)) (giving sources j r (CellName k))
   name-ok r k =
       some-ok K (λ i e. need-ok K (λ c.
       own-ok K s j t m r (N.CellOf i) (CellName k) keep keep-ok (λ n q. let z : i ≡ n = cc in rw z at c) (named-has K (s .cells) k _ (v .declared k i e))))
 
-  pub code-ok : (r b : ℕ) → StepOk K (s .cells) j (R.coding t r (getElem? (map (λ (b : Block). b .bound) (K .blocks)) b)) (giving sources j r (CodeName b))
+  pub code-ok : (r b : ℕ) → StepOk K (s .cells) j (R.codeRule t r (getElem? (map (λ (b : Block). b .bound) (K .blocks)) b)) (giving sources j r (CodeName b))
   code-ok r b =
       some-ok K (λ l e. own-ok K s j t m r (N.Code l) (CodeName b) keep keep-ok (λ i q. cc)
       (let z : blockOf K b .bound ≡ l = bound-is (K .blocks) b l e in
       let y : blockOf K b .bound .0 ≡ l .0 = ap (λ (l : Label). l .0) z in
       omega arith))
 
-  pub add-ok : (r a b : ℕ) → StepOk K (s .cells) j (R.adding (K .c) t r a b) (adding sources j r (register sources j a) (register sources j b))
-  unfolding adding
+  pub add-ok : (r a b : ℕ) → StepOk K (s .cells) j (R.addRule (K .c) t r a b) (addStep sources j r (register sources j a) (register sources j b))
+  unfolding addStep
   add-ok r a b =
       need-ok K (λ p. plain-ok K (λ x ex. plain-ok K (λ y ey.
       gives-ok K s j t m r N.Plain _ _ _ keep keep-ok
@@ -68,46 +68,46 @@ module _ (K : Book) (size : ℕ) (s : State Label) (v : Invariant K s) (ok : Gro
     unfolding holds
     holds-has = fits-has K (s .cells) ok _ _ _ (both-left _ _ h) (fits-known K s j t m a)
 
-    holds-used : trustOf (K .c) (shapeOf K) i .0 ≤ used t a .0
+    holds-used : countedTrust (K .c) (shapeOf K) i .0 ≤ used t a .0
     unfolding holds
     holds-used = leb-true _ _ (both-right _ _ h)
 
-    holds-source : K .c .0 < trustOf (K .c) (shapeOf K) i .0 → trustOf (K .c) (shapeOf K) i .0 ≤ j .label .0
-        → trustOf (K .c) (shapeOf K) i .0 ≤ max (K .c .0) (lower (register sources j a .history) (j .history) .0)
+    holds-source : K .c .0 < countedTrust (K .c) (shapeOf K) i .0 → countedTrust (K .c) (shapeOf K) i .0 ≤ j .label .0
+        → countedTrust (K .c) (shapeOf K) i .0 ≤ max (K .c .0) (lower (register sources j a .history) (j .history) .0)
     holds-source p q = act-source (K .c .0) _ (j .label .0) _ (t .p) _ _ p holds-used q (register-ok K s j t m a .source) (m .source)
 
-  new-cell : (i a : ℕ) → isCell (K .c) (shapeOf K) i ≡ true → K .c .0 < t .p .0
+  new-cell : (i a : ℕ) → isCellShape (K .c) (shapeOf K) i ≡ true → K .c .0 < t .p .0
       → either (not (highTrust (K .c) (shapeOf K) i)) (both (t .lowered) (holds (K .c) (shapeOf K) t a i)) ≡ true
       → CellOk K (s .cells) (record { shape = i; label = j .label; content = acted sources (j .history) (register sources j a) })
   new-cell i a ic hi e = one-shape K (s .cells) _ _ _ (tree-cell (K .c) (shapeOf K) ok i ic) (go (highTrust (K .c) (shapeOf K) i) refl)
     where
       go : (b : Bool) → highTrust (K .c) (shapeOf K) i ≡ b
           → Good K (s .cells) (record { shape = i; label = j .label; content = acted sources (j .history) (register sources j a) })
-          (treeOf K (contentOf (K .c) (shapeOf K) i)) (trustOf (K .c) (shapeOf K) i .0)
+          (treeOf K (contentOf (K .c) (shapeOf K) i)) (countedTrust (K .c) (shapeOf K) i .0)
       go false p = low-good K (s .cells) _ _ _ (omega facts)
       go true p =
           let h = either-second _ _ e (not-false _ p) in
           let w = holds-has a i (both-right _ _ h) in
           let u = holds-used a i (both-right _ _ h) in
           let n = m .lowered (both-left _ _ h) in
-          let x = lower-number (R.register t a .effect) (t .p) in
-          let l : trustOf (K .c) (shapeOf K) i .0 ≤ j .label .0 = omega facts in
+          let x = lower-number (R.registerType t a .effect) (t .p) in
+          let l : countedTrust (K .c) (shapeOf K) i .0 ≤ j .label .0 = omega facts in
           record { label = omega arith; source = holds-source a i (both-right _ _ h) (omega facts) l; has = λ z. w }
 
   pub new-ok : (r i a : ℕ) → K .c .0 < t .p .0
-      → StepOk K (s .cells) j (R.making (K .c) (shapeOf K) t r i a)
-      (record { job = gets sources j r (CellName (length (s .cells))) (j .history); effect = making sources size s (j .label) (j .history) i (register sources j a) })
-  unfolding making
+      → StepOk K (s .cells) j (R.newRule (K .c) (shapeOf K) t r i a)
+      (record { job = gets sources j r (CellName (length (s .cells))) (j .history); effect = newAct sources size s (j .label) (j .history) i (register sources j a) })
+  unfolding newAct
   new-ok r i a hi =
       need-ok K (λ e. given-effect K (λ f.
       own-ok K s j t m r (N.CellOf i) _ (create _) (create-ok (new-cell i a (both-left _ _ e) hi (both-right _ _ e)))
-      (λ n q. let z : i ≡ n = cc in let c : isCell (K .c) (shapeOf K) i ≡ true = both-left _ _ e in rw z at c)
+      (λ n q. let z : i ≡ n = cc in let c : isCellShape (K .c) (shapeOf K) i ≡ true = both-left _ _ e in rw z at c)
       (named-has K _ _ _ (created K (s .cells) _))))
 
-  pub read-ok : (r w : ℕ) → StepOk K (s .cells) j (R.reading (K .c) (shapeOf K) t r w) (reading sources s j r w)
-  unfolding reading
+  pub read-ok : (r w : ℕ) → StepOk K (s .cells) j (R.readRule (K .c) (shapeOf K) t r w) (readStep sources s j r w)
+  unfolding readStep
   read-ok r w =
-      either-ok K (isLow (K .c) (R.register t w .effect))
+      either-ok K (isLow (K .c) (R.registerType t w .effect))
       (λ e. cell-ok K (λ k ek. entry-ok K (λ c ec. low-ok K s j t m r _ _ keep keep-ok)))
       (λ e. known-cell-ok K (λ i ei. cell-ok K (λ k ek. entry-ok K (λ c ec.
       let g = good-at K s j t m ok v w i k c ei ek ec in
@@ -134,8 +134,8 @@ module _ (K : Book) (size : ℕ) (s : State Label) (v : Invariant K s) (ok : Gro
         let h = m .label in
         omega facts
 
-  pub lower-ok : (q : Label) → StepOk K (s .cells) j (R.lowering (K .c) t q) (lowering sources j q)
-  unfolding R.lowering lowering
+  pub lower-ok : (q : Label) → StepOk K (s .cells) j (R.lowerRule (K .c) t q) (lowerStep sources j q)
+  unfolding R.lowerRule lowerStep
   lower-ok q =
       given-ok K (λ e. free-ok K
       (λ f. fine (record {
@@ -147,8 +147,8 @@ module _ (K : Book) (size : ℕ) (s : State Label) (v : Invariant K s) (ok : Gro
       (λ f. never-stuck K (lowered-stuck q e f)))
 
   pub write-ok : (w a : ℕ) → K .c .0 < t .p .0
-      → StepOk K (s .cells) j (R.writing (K .c) (shapeOf K) t w a) (through sources j w (λ k. writing sources s (j .label) (j .history) k (register sources j a)))
-  unfolding writing
+      → StepOk K (s .cells) j (R.writeRule (K .c) (shapeOf K) t w a) (through sources j w (λ k. writeAct sources s (j .label) (j .history) k (register sources j a)))
+  unfolding writeAct
   write-ok w a hi =
       known-cell-ok K (λ i ei. cell-ok K (λ k ek. entry-effect K (λ c ec. given-effect K (λ el. free-ok K
       (λ fr. need-ok K (λ e. put-back K s j t m ok v w i k c ei ek ec (stored i k c ei ek ec (leb-true _ _ el) e (highTrust (K .c) (shapeOf K) i) refl)))
@@ -158,7 +158,7 @@ module _ (K : Book) (size : ℕ) (s : State Label) (v : Invariant K s) (ok : Gro
           → c .label .0 ≤ j .label .0 → either (not (highTrust (K .c) (shapeOf K) i)) (holds (K .c) (shapeOf K) t a i) ≡ true
           → (b : Bool) → highTrust (K .c) (shapeOf K) i ≡ b
           → Good K (s .cells) (record { shape = c .shape; label = c .label; content = acted sources (j .history) (register sources j a) })
-          (treeOf K (contentOf (K .c) (shapeOf K) i)) (trustOf (K .c) (shapeOf K) i .0)
+          (treeOf K (contentOf (K .c) (shapeOf K) i)) (countedTrust (K .c) (shapeOf K) i .0)
       stored i k c ei ek ec el e false p = low-good K (s .cells) _ _ _ (omega facts)
       stored i k c ei ek ec el e true p =
           let g = good-at K s j t m ok v w i k c ei ek ec in
@@ -168,7 +168,7 @@ module _ (K : Book) (size : ℕ) (s : State Label) (v : Invariant K s) (ok : Gro
           record { label = g .label; source = holds-source a i h (omega facts) l; has = λ z. x }
 
       blocks : (i k : ℕ) (c : Cell Label) → known (K .c) t w ≡ N.CellOf i → register sources j w .value ≡ CellName k → getElem? (s .cells) k ≡ some c
-          → c .label .0 ≤ j .label .0 → t .p .0 < trustOf (K .c) (shapeOf K) i .0 → ⊥
+          → c .label .0 ≤ j .label .0 → t .p .0 < countedTrust (K .c) (shapeOf K) i .0 → ⊥
       blocks i k c ei ek ec el fr =
           let g = good-at K s j t m ok v w i k c ei ek ec in
           let x = g .label in
@@ -176,24 +176,24 @@ module _ (K : Book) (size : ℕ) (s : State Label) (v : Invariant K s) (ok : Gro
           omega arith
 
   pub relabel-ok : (w : ℕ) (o : Label) → K .c .0 < t .p .0
-      → StepOk K (s .cells) j (R.relabelling (K .c) (shapeOf K) t w o) (through sources j w (λ k. relabelling sources s (j .label) (j .history) k o))
-  unfolding relabelling
+      → StepOk K (s .cells) j (R.relabelRule (K .c) (shapeOf K) t w o) (through sources j w (λ k. relabelAct sources s (j .label) (j .history) k o))
+  unfolding relabelAct
   relabel-ok w o hi =
       known-cell-ok K (λ i ei. cell-ok K (λ k ek. entry-effect K (λ c ec. given-effect K (λ el. free-ok K
       (λ fr. need-ok K (λ so. put-back K s j t m ok v w i k c ei ek ec (stored i k c ei ek ec (leb-true _ _ so))))
       (λ fr. never-stuck K (blocks i k c ei ek ec (both-left _ _ el) (both-right _ _ el) _ refl _ refl fr))))))
     where
       stored : (i k : ℕ) (c : Cell Label) → known (K .c) t w ≡ N.CellOf i → register sources j w .value ≡ CellName k → getElem? (s .cells) k ≡ some c
-          → trustOf (K .c) (shapeOf K) i .0 ≤ o .0
-          → Good K (s .cells) (record { shape = c .shape; label = o; content = c .content }) (treeOf K (contentOf (K .c) (shapeOf K) i)) (trustOf (K .c) (shapeOf K) i .0)
+          → countedTrust (K .c) (shapeOf K) i .0 ≤ o .0
+          → Good K (s .cells) (record { shape = c .shape; label = o; content = c .content }) (treeOf K (contentOf (K .c) (shapeOf K) i)) (countedTrust (K .c) (shapeOf K) i .0)
       stored i k c ei ek ec so =
           let g = good-at K s j t m ok v w i k c ei ek ec in
           record { label = omega arith; source = g .source; has = g .has }
 
       blocks : (i k : ℕ) (c : Cell Label) → known (K .c) t w ≡ N.CellOf i → register sources j w .value ≡ CellName k → getElem? (s .cells) k ≡ some c
           → leb (c .label .0) (j .label .0) ≡ true → leb (o .0) (j .label .0) ≡ true
-          → (a : Bool) → leb (trustOf (K .c) (shapeOf K) i .0) (t .p .0) ≡ a → (b : Bool) → leb (o .0) (t .p .0) ≡ b
-          → both (leb (trustOf (K .c) (shapeOf K) i .0) (t .p .0)) (leb (o .0) (t .p .0)) ≡ false → ⊥
+          → (a : Bool) → leb (countedTrust (K .c) (shapeOf K) i .0) (t .p .0) ≡ a → (b : Bool) → leb (o .0) (t .p .0) ≡ b
+          → both (leb (countedTrust (K .c) (shapeOf K) i .0) (t .p .0)) (leb (o .0) (t .p .0)) ≡ false → ⊥
       blocks i k c ei ek ec el eo false p b q f =
           let x = good-at K s j t m ok v w i k c ei ek ec .label in
           let y = m .label in
@@ -201,8 +201,8 @@ module _ (K : Book) (size : ℕ) (s : State Label) (v : Invariant K s) (ok : Gro
       blocks i k c ei ek ec el eo true p false q f = let y = m .label in omega facts
       blocks i k c ei ek ec el eo true p true q f = clash (both-true _ _ p q) f
 
-  pub start-ok : (b : ℕ) → StepOk K (s .cells) j (R.starting t (getElem? (map (λ (b : Block). b .bound) (K .blocks)) b)) (record { job = moved sources j; effect = starting sources size s (j .label) (j .history) b })
-  unfolding starting
+  pub start-ok : (b : ℕ) → StepOk K (s .cells) j (R.startRule t (getElem? (map (λ (b : Block). b .bound) (K .blocks)) b)) (record { job = moved sources j; effect = startAct sources size s (j .label) (j .history) b })
+  unfolding startAct
   start-ok b =
       some-ok K (λ l e. need-ok K (λ p. given-effect K (λ f.
       moves-ok K s j t m _ (launch-ok (fresh-ok K (s .cells) pass b (j .label) (j .history) (reaching l e (leb-true _ _ p)) (m .source))))))
@@ -215,15 +215,15 @@ module _ (K : Book) (size : ℕ) (s : State Label) (v : Invariant K s) (ok : Gro
           omega arith
 
   pub exec-ok : (w : ℕ) → K .c .0 < t .p .0
-      → StepOk K (s .cells) j (R.executing (K .c) (shapeOf K) t w) (through sources j w (executing sources size s (j .label) (j .history)))
-  unfolding executing
+      → StepOk K (s .cells) j (R.execRule (K .c) (shapeOf K) t w) (through sources j w (execAct sources size s (j .label) (j .history)))
+  unfolding execAct
   exec-ok w hi =
       known-cell-ok K (λ i ei. known-code-ok K (λ l el. need-ok K (λ p.
       cell-ok K (λ k ek. entry-effect K (λ c ec. code-effect K (λ b eb. given-effect K (λ f.
       moves-ok K s j t m _ (launch-ok (started i l el (leb-true _ _ (both-left _ _ p)) (leb-true _ _ (both-right _ _ p)) k ei ek c ec b eb)))))))))
     where
       started : (i : ℕ) (l : Label) → knownOf (K .c) (shapeOf K) (contentOf (K .c) (shapeOf K) i) ≡ N.Code l → t .p .0 ≤ l .0
-          → t .p .0 ≤ trustOf (K .c) (shapeOf K) i .0 → (k : ℕ) → known (K .c) t w ≡ N.CellOf i → register sources j w .value ≡ CellName k
+          → t .p .0 ≤ countedTrust (K .c) (shapeOf K) i .0 → (k : ℕ) → known (K .c) t w ≡ N.CellOf i → register sources j w .value ≡ CellName k
           → (c : Cell Label) → getElem? (s .cells) k ≡ some c → (b : ℕ) → c .content .value ≡ CodeName b
           → JobOk K (s .cells) (freshJob sources b (execLabel (j .label) (c .label)) (lower (lower (j .history) (c .content .history)) (execLabel (j .label) (c .label))))
       started i l el pl ps k ei ek c ec b eb =

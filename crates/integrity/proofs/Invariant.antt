@@ -22,8 +22,8 @@ use Rattle.typing.specs.declared.Known.{Known}
 use Rattle.typing.specs.declared.Known.the-variants as N
 use Rattle.typing.specs.declared.Register.{Register}
 use Rattle.typing.specs.declared.State as T
-use Rattle.typing.specs.Shapes.{View, viewOf, isCell}
-use Rattle.typing.specs.Rules.{Typed, passes, stuck, breaks, step}
+use Rattle.typing.specs.Shapes.{View, viewOf, isCellShape}
+use Rattle.typing.specs.Rules.{Typed, passes, stuck, breaks, stepRule}
 use Rattle.machine.specs.States.{Traced, Cell, Job, State}
 use Rattle.machine.specs.Events.{blockOf}
 use Rattle.integrity.proofs.Trees.{Tree, plain, code, cell, tree}
@@ -37,7 +37,7 @@ module _ (B : View) where
   passesAll [] (passes t) = true
   passesAll (p ∷ ps) breaks = false
   passesAll (p ∷ ps) stuck = true
-  passesAll (p ∷ ps) (passes t) = passesAll ps (step B t p)
+  passesAll (p ∷ ps) (passes t) = passesAll ps (stepRule B t p)
 
 abbrev pub Cells : Type 0
 Cells = List (Cell Label)
@@ -85,7 +85,7 @@ module _ (K : Book) where
 
   -- a register of a job at label l: 7 and 8
   pub record RegisterOk (cs : Cells) (l : ℕ) (x : Register) (v : Traced Label) : Type 0 where
-    pub cellular : (i : ℕ) → x .known ≡ N.CellOf i → isCell (K .c) shapeOf i ≡ true
+    pub cellular : (i : ℕ) → x .known ≡ N.CellOf i → isCellShape (K .c) shapeOf i ≡ true
     pub fits : K .c .0 < x .effect .0 → Fits cs (v .value) (x .known)
     pub source : min (x .effect .0) l ≤ max (K .c .0) (v .history .0)
 

@@ -19,7 +19,7 @@ use Rattle.book.specs.Book.{Book, Block}
 use Rattle.book.proofs.Tests.{clash, both-left, both-right}
 use Rattle.typing.specs.declared.Known.{Known}
 use Rattle.typing.specs.declared.Known.the-variants as N
-use Rattle.typing.specs.Shapes.{isCode, isCell, boundOf, knownOf, fits}
+use Rattle.typing.specs.Shapes.{isCodeShape, isCellShape, boundOf, knownOf, fits}
 use Rattle.machine.specs.Events.{noBlock}
 use Rattle.integrity.proofs.Trees.{Grounded, Tree, plain, code, cell, tree-code, tree-plain, alike-tree}
 use Rattle.integrity.proofs.Invariant.{Cells, shapeOf, treeOf, treeAt, Has, Fits}
@@ -57,18 +57,18 @@ module _ (K : Book) (cs : Cells) where
 
     pub has-known : (v : Value) (i : ℕ) → Has K cs v (treeOf K i) → Fits K cs v (knownOf (K .c) (shapeOf K) i)
     unfolding knownOf
-    has-known v i h = go (isCode (K .c) (shapeOf K) i) refl (isCell (K .c) (shapeOf K) i) refl
+    has-known v i h = go (isCodeShape (K .c) (shapeOf K) i) refl (isCellShape (K .c) (shapeOf K) i) refl
       where
-        go : (a : Bool) → isCode (K .c) (shapeOf K) i ≡ a → (b : Bool) → isCell (K .c) (shapeOf K) i ≡ b → Fits K cs v (knownOf (K .c) (shapeOf K) i)
+        go : (a : Bool) → isCodeShape (K .c) (shapeOf K) i ≡ a → (b : Bool) → isCellShape (K .c) (shapeOf K) i ≡ b → Fits K cs v (knownOf (K .c) (shapeOf K) i)
         go true p b q = simp p (rw (tree-code (K .c) (shapeOf K) ok i p) at h)
         go false p true q = simp (p, q) h
         go false p false q = simp (p, q) tt
 
     pub known-code : (i : ℕ) (b : Label) → knownOf (K .c) (shapeOf K) i ≡ N.Code b → treeOf K i ≡ code (b .0)
     unfolding knownOf
-    known-code i b e = go (isCode (K .c) (shapeOf K) i) refl (isCell (K .c) (shapeOf K) i) refl
+    known-code i b e = go (isCodeShape (K .c) (shapeOf K) i) refl (isCellShape (K .c) (shapeOf K) i) refl
       where
-        go : (x : Bool) → isCode (K .c) (shapeOf K) i ≡ x → (y : Bool) → isCell (K .c) (shapeOf K) i ≡ y → treeOf K i ≡ code (b .0)
+        go : (x : Bool) → isCodeShape (K .c) (shapeOf K) i ≡ x → (y : Bool) → isCellShape (K .c) (shapeOf K) i ≡ y → treeOf K i ≡ code (b .0)
         go true p y q =
             let z : N.Code (boundOf (K .c) (shapeOf K) i) ≡ N.Code b = simp p at e in
             let w : boundOf (K .c) (shapeOf K) i ≡ b = cc in
@@ -76,11 +76,11 @@ module _ (K : Book) (cs : Cells) where
         go false p true q = let z : N.CellOf i ≡ N.Code b = simp (p, q) at e in cc
         go false p false q = let z : N.Plain ≡ N.Code b = simp (p, q) at e in cc
 
-pub known-cellular : (K : Book) (i k : ℕ) → knownOf (K .c) (shapeOf K) i ≡ N.CellOf k → isCell (K .c) (shapeOf K) k ≡ true
+pub known-cellular : (K : Book) (i k : ℕ) → knownOf (K .c) (shapeOf K) i ≡ N.CellOf k → isCellShape (K .c) (shapeOf K) k ≡ true
 unfolding knownOf
-known-cellular K i k e = go (isCode (K .c) (shapeOf K) i) refl (isCell (K .c) (shapeOf K) i) refl
+known-cellular K i k e = go (isCodeShape (K .c) (shapeOf K) i) refl (isCellShape (K .c) (shapeOf K) i) refl
   where
-    go : (x : Bool) → isCode (K .c) (shapeOf K) i ≡ x → (y : Bool) → isCell (K .c) (shapeOf K) i ≡ y → isCell (K .c) (shapeOf K) k ≡ true
+    go : (x : Bool) → isCodeShape (K .c) (shapeOf K) i ≡ x → (y : Bool) → isCellShape (K .c) (shapeOf K) i ≡ y → isCellShape (K .c) (shapeOf K) k ≡ true
     go true p y q = let z : N.Code (boundOf (K .c) (shapeOf K) i) ≡ N.CellOf k = simp p at e in cc
     go false p true q =
         let z : N.CellOf i ≡ N.CellOf k = simp (p, q) at e in

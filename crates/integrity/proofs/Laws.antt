@@ -17,7 +17,7 @@ use Rattle.machine.specs.declared.Event.{Event}
 use Rattle.machine.specs.declared.Event.the-variants.{StepOf, WriteBy, RelabelBy, NewBy, ExecBy, StartBy}
 use Rattle.machine.specs.Histories.{History, hands, lists, append}
 use Rattle.machine.specs.States.{State}
-use Rattle.machine.specs.Acts.{freshJob, execLabel, executing}
+use Rattle.machine.specs.Acts.{freshJob, execLabel, execAct}
 use Rattle.machine.specs.Events.{noSuch, unchanged, outcomeOf}
 use Rattle.integrity.specs.Integrity.{_isIn_}
 use Rattle.integrity.specs.Laws.{ExecHistory, claimed, AboveC}
@@ -32,7 +32,7 @@ behind x [] ys m = m
 behind x (y ∷ xs) ys m = List·Memᴰ·tail (behind x xs ys m)
 
 pub exec-history : ExecHistory
-unfolding executing execLabel onSome onCode given
+unfolding execAct execLabel onSome onCode given
 exec-history size s l h k b c ec ev free = (
   freshJob lists b (lower l (c .label)) (append (append h (c .content .history)) (record { first = lower l (c .label); rest = [] })),
   simp (ec, ev, lt-ltb _ _ free),

@@ -13,11 +13,11 @@ use Rattle.labels.specs.declared.Label.{Label}
 use Rattle.book.specs.Book.{Book}
 use Rattle.book.proofs.Every.{all-at}
 use Rattle.book.proofs.Tests.{clash, both-left}
-use Rattle.typing.specs.Shapes.{viewOf, trustOf}
+use Rattle.typing.specs.Shapes.{viewOf, countedTrust}
 use Rattle.typing.specs.Rules.{passes, fresh}
 use Rattle.machine.specs.Histories.{sources}
 use Rattle.machine.specs.States.{Traced, Cell, State}
-use Rattle.machine.specs.Acts.{store, create, freshJob, writing, relabelling, making, starting, executing}
+use Rattle.machine.specs.Acts.{store, create, freshJob, writeAct, relabelAct, newAct, startAct, execAct}
 use Rattle.machine.specs.Events.{blockOf}
 use Rattle.integrity.proofs.Trees.{Tree, cell, tree-trust}
 use Rattle.integrity.proofs.Entries.{all2-replicate}
@@ -54,7 +54,7 @@ module _ (K : Book) (cs : Cells) where
   pub one-shape : (c : Cell Label) (t : Tree) (S : ℕ) → treeOf K (c .shape) ≡ cell t S → Good K cs c t S → CellOk K cs c
   one-shape c t S e g t′ S′ e′ = let x : t ≡ t′ = cc in let y : S ≡ S′ = cc in rw (← x, ← y) g
 
-  pub low-create : (c : Cell Label) → trustOf (K .c) (shapeOf K) (c .shape) .0 ≤ K .c .0 → EffectOk K cs (create c)
+  pub low-create : (c : Cell Label) → countedTrust (K .c) (shapeOf K) (c .shape) .0 ≤ K .c .0 → EffectOk K cs (create c)
   low-create c h = create-ok (λ t S e. let y = tree-trust (K .c) (shapeOf K) (c .shape) t S e in low-good c t S (omega arith))
 
 module _ (K : Book) (s : State Label) (v : Invariant K s) (l h : Label) (lo : l .0 ≤ K .c .0) where
@@ -67,29 +67,29 @@ module _ (K : Book) (s : State Label) (v : Invariant K s) (l h : Label) (lo : l 
           let g = all-at (CellOk K (s .cells)) (s .cells) k c (v .cells) e t S (ap (treeOf K) (sym q) ∙ z) in
           low-good K (s .cells) d t S (omega (arith, g .label))
 
-  pub low-writing : (k : ℕ) (w : Traced Label) → EffectOk K (s .cells) (writing sources s l h k w)
-  unfolding writing
+  pub low-writing : (k : ℕ) (w : Traced Label) → EffectOk K (s .cells) (writeAct sources s l h k w)
+  unfolding writeAct
   low-writing k w = entry-act K (λ c ec. given-act K (λ el. low-store k c _ ec (leb-true _ _ el) refl))
 
-  pub low-relabelling : (k : ℕ) (o : Label) → EffectOk K (s .cells) (relabelling sources s l h k o)
-  unfolding relabelling
+  pub low-relabelling : (k : ℕ) (o : Label) → EffectOk K (s .cells) (relabelAct sources s l h k o)
+  unfolding relabelAct
   low-relabelling k o =
       entry-act K (λ c ec. given-act K (λ e. low-store k c _ ec (leb-true _ _ (both-left _ _ e)) refl))
 
 module _ (K : Book) (size : ℕ) (s : State Label) (v : Invariant K s) (l h : Label) (lo : l .0 ≤ K .c .0) where
-  pub low-making : (i : ℕ) (w : Traced Label) → trustOf (K .c) (shapeOf K) i .0 ≤ K .c .0 → EffectOk K (s .cells) (making sources size s l h i w)
-  unfolding making
+  pub low-making : (i : ℕ) (w : Traced Label) → countedTrust (K .c) (shapeOf K) i .0 ≤ K .c .0 → EffectOk K (s .cells) (newAct sources size s l h i w)
+  unfolding newAct
   low-making i w p = given-act K (λ e. low-create K (s .cells) _ p)
 
   module _ (pass : BlocksPass K) where
     low-job : (b : ℕ) (m h : Label) → m .0 ≤ K .c .0 → JobOk K (s .cells) (freshJob sources b m h)
     low-job b m h p = fresh-ok K (s .cells) pass b m h (omega arith) (omega arith)
 
-    pub low-starting : (b : ℕ) → EffectOk K (s .cells) (starting sources size s l h b)
-    unfolding starting
+    pub low-starting : (b : ℕ) → EffectOk K (s .cells) (startAct sources size s l h b)
+    unfolding startAct
     low-starting b = given-act K (λ e. launch-ok (low-job b l h lo))
 
-    pub low-executing : (k : ℕ) → EffectOk K (s .cells) (executing sources size s l h k)
-    unfolding executing
+    pub low-executing : (k : ℕ) → EffectOk K (s .cells) (execAct sources size s l h k)
+    unfolding execAct
     low-executing k =
         entry-act K (λ c ec. code-act K (λ b eb. given-act K (λ e. launch-ok (low-job b _ _ (exec-low (K .c .0) l (c .label) lo)))))

@@ -18,7 +18,7 @@ use Rattle.book.proofs.Every.{all-at}
 use Rattle.typing.specs.declared.Known.{Known}
 use Rattle.typing.specs.declared.Known.the-variants as N
 use Rattle.typing.specs.declared.State as T
-use Rattle.typing.specs.Shapes.{isCell, contentOf, trustOf}
+use Rattle.typing.specs.Shapes.{isCellShape, contentOf, countedTrust}
 use Rattle.typing.specs.Rules.{passes, known, lowRegister, isLow}
 use Rattle.typing.specs.Rules as R
 use Rattle.machine.specs.Histories.{sources}
@@ -37,25 +37,25 @@ pub low-register : (K : Book) (cs : Cells) (l : ℕ) (v : Traced Label) → Regi
 low-register K cs l v = record { cellular = λ i e. cc; fits = λ (h : K .c .0 < 0). absurd (omega arith); source = omega arith }
 
 -- where typing knows a cell, the effect is above C, and the register holds it
-pub known-cell : (c : Label) (t : T.State) (w i : ℕ) → known c t w ≡ N.CellOf i → (isLow c (R.register t w .effect) ≡ false) × (R.register t w .known ≡ N.CellOf i)
+pub known-cell : (c : Label) (t : T.State) (w i : ℕ) → known c t w ≡ N.CellOf i → (isLow c (R.registerType t w .effect) ≡ false) × (R.registerType t w .known ≡ N.CellOf i)
 unfolding known
-known-cell c t w i e = go (isLow c (R.register t w .effect)) refl
+known-cell c t w i e = go (isLow c (R.registerType t w .effect)) refl
   where
-    go : (b : Bool) → isLow c (R.register t w .effect) ≡ b → (isLow c (R.register t w .effect) ≡ false) × (R.register t w .known ≡ N.CellOf i)
+    go : (b : Bool) → isLow c (R.registerType t w .effect) ≡ b → (isLow c (R.registerType t w .effect) ≡ false) × (R.registerType t w .known ≡ N.CellOf i)
     go true p = let z : N.Unknown ≡ N.CellOf i = simp p at e in ((cc), (cc))
     go false p = (p, simp p at e)
 
 module _ (K : Book) (s : State Label) (j : Job Label) (t : T.State) (m : Match K (s .cells) t j) where
-  pub register-ok : (r : ℕ) → RegisterOk K (s .cells) (j .label .0) (R.register t r) (register sources j r)
+  pub register-ok : (r : ℕ) → RegisterOk K (s .cells) (j .label .0) (R.registerType t r) (register sources j r)
   register-ok r =
       all2-get (RegisterOk K (s .cells) (j .label .0)) (t .registers) (j .registers) r lowRegister (zeroWith sources (j .history)) (m .registers)
       (low-register K (s .cells) (j .label .0) _)
 
   pub fits-known : (r : ℕ) → Fits K (s .cells) (register sources j r .value) (known (K .c) t r)
   unfolding known
-  fits-known r = go (isLow (K .c) (R.register t r .effect)) refl
+  fits-known r = go (isLow (K .c) (R.registerType t r .effect)) refl
     where
-      go : (b : Bool) → isLow (K .c) (R.register t r .effect) ≡ b → Fits K (s .cells) (register sources j r .value) (known (K .c) t r)
+      go : (b : Bool) → isLow (K .c) (R.registerType t r .effect) ≡ b → Fits K (s .cells) (register sources j r .value) (known (K .c) t r)
       go true p = simp p tt
       go false p = simp p (register-ok r .fits (omega facts))
 
@@ -85,7 +85,7 @@ module _ (K : Book) (s : State Label) (j : Job Label) (t : T.State) (m : Match K
 
   -- a result with the job's history, of effect P
   pub own-ok : (r : ℕ) (k : Known) (w : Value) (e : Effect Label) → EffectOk K (s .cells) e
-      → ((i : ℕ) → k ≡ N.CellOf i → isCell (K .c) (shapeOf K) i ≡ true) → Fits K (After K (s .cells) e) w k
+      → ((i : ℕ) → k ≡ N.CellOf i → isCellShape (K .c) (shapeOf K) i ≡ true) → Fits K (After K (s .cells) e) w k
       → StepOk K (s .cells) j (R.gives t r k (t .p)) (record { job = gets sources j r w (j .history); effect = e })
   own-ok r k w e f c h =
       gives-ok r k (t .p) w (j .history) e f (record { cellular = c; fits = λ z. h; source = omega (arith, m .source) })
@@ -107,19 +107,19 @@ module _ (K : Book) (s : State Label) (j : Job Label) (t : T.State) (m : Match K
 
   module _ (ok : Grounded (shapeOf K)) (v : Invariant K s) (w i k : ℕ) (c : Cell Label) (ei : known (K .c) t w ≡ N.CellOf i)
       (ek : register sources j w .value ≡ CellName k) (ec : getElem? (s .cells) k ≡ some c) where
-    pub tree-at : treeOf K (c .shape) ≡ cell (treeOf K (contentOf (K .c) (shapeOf K) i)) (trustOf (K .c) (shapeOf K) i .0)
+    pub tree-at : treeOf K (c .shape) ≡ cell (treeOf K (contentOf (K .c) (shapeOf K) i)) (countedTrust (K .c) (shapeOf K) i .0)
     tree-at =
-        let x : isCell (K .c) (shapeOf K) i ≡ true = register-ok w .cellular i (known-cell (K .c) t w i ei .1) in
+        let x : isCellShape (K .c) (shapeOf K) i ≡ true = register-ok w .cellular i (known-cell (K .c) t w i ei .1) in
         let y : Fits K (s .cells) (CellName k) (N.CellOf i) = rw (ei, ek) at (fits-known w) in
-        let z : treeAt K (s .cells) k ≡ some (cell (treeOf K (contentOf (K .c) (shapeOf K) i)) (trustOf (K .c) (shapeOf K) i .0)) =
+        let z : treeAt K (s .cells) k ≡ some (cell (treeOf K (contentOf (K .c) (shapeOf K) i)) (countedTrust (K .c) (shapeOf K) i .0)) =
         rw (tree-cell (K .c) (shapeOf K) ok i x) at y in
         cc
 
-    pub good-at : Good K (s .cells) c (treeOf K (contentOf (K .c) (shapeOf K) i)) (trustOf (K .c) (shapeOf K) i .0)
+    pub good-at : Good K (s .cells) c (treeOf K (contentOf (K .c) (shapeOf K) i)) (countedTrust (K .c) (shapeOf K) i .0)
     good-at = all-at (CellOk K (s .cells)) (s .cells) k c (v .cells) ec _ _ tree-at
 
     pub put-back : {l : Label} {x : Traced Label}
-        → Good K (s .cells) (record { shape = c .shape; label = l; content = x }) (treeOf K (contentOf (K .c) (shapeOf K) i)) (trustOf (K .c) (shapeOf K) i .0)
+        → Good K (s .cells) (record { shape = c .shape; label = l; content = x }) (treeOf K (contentOf (K .c) (shapeOf K) i)) (countedTrust (K .c) (shapeOf K) i .0)
         → StepOk K (s .cells) j (passes t)
         (record { job = moved sources j; effect = store k (record { shape = c .shape; label = l; content = x }) })
     put-back g = moves-ok _ (store-ok (one-shape K (s .cells) _ _ _ tree-at g) (store-tree K (s .cells) k c _ ec refl))

@@ -16,7 +16,7 @@ use Rattle.typing.specs.Shapes as T
 use Rattle.machine.specs.declared.Event.{Event}
 use Rattle.machine.specs.Histories.{History, lists, lowest, source, sources}
 use Rattle.machine.specs.States.{Cell, Job, State}
-use Rattle.machine.specs.Events.{trustOf, launchLabel, freshState, stateAfter}
+use Rattle.machine.specs.Events.{statedTrust, launchLabel, freshState, stateAfter}
 use Rattle.machine.specs.Images.{cellImage, jobImage, stateImage}
 use Rattle.machine.specs.Records.{cellRecord, jobRecord}
 use Rattle.machine.proofs.Sources.{source-law}
@@ -43,19 +43,19 @@ module _ (K : Book) (a : Accepted K) (size : ℕ) (l : Label) (p : reaches (laun
       rw (source-law size K .after-image l es)
       (state-after-ok K size (a .sound) (a .blocks) es (freshState sources K l) (fresh-state-ok K a l (leb-true _ _ p)))
 
-  good : (c : Cell History) → c isIn end .cells → (h : isHigh (trustOf K (c .shape)) (K .c) ≡ true)
-      → Good K (stateImage source end .cells) (cellImage source c) (treeOf K (T.contentOf (K .c) (shapeOf K) (c .shape))) (trustOf K (c .shape) .0)
+  good : (c : Cell History) → c isIn end .cells → (h : isHigh (statedTrust K (c .shape)) (K .c) ≡ true)
+      → Good K (stateImage source end .cells) (cellImage source c) (treeOf K (T.contentOf (K .c) (shapeOf K) (c .shape))) (statedTrust K (c .shape) .0)
   good c m h =
-      let n : T.trustOf (K .c) (shapeOf K) (c .shape) .0 ≡ trustOf K (c .shape) .0 = ap (λ (t : Trust). t .0) (normal-high (K .c) (trustOf K (c .shape)) h) in
+      let n : T.countedTrust (K .c) (shapeOf K) (c .shape) .0 ≡ statedTrust K (c .shape) .0 = ap (λ (t : Trust). t .0) (normal-high (K .c) (statedTrust K (c .shape)) h) in
       map-all (cellImage source) (CellOk K _) (end .cells) c (invariant .cells) m _ _
       (tree-cell (K .c) (shapeOf K) (a .sound) (c .shape) (a .cellular (c .shape) (ltb-true _ _ h)) ∙ ap (cell (treeOf K (T.contentOf (K .c) (shapeOf K) (c .shape)))) n)
 
-  label-kept : (c : Cell History) → c isIn end .cells → isHigh (trustOf K (c .shape)) (K .c) ≡ true → trustOf K (c .shape) .0 ≤ c .label .0
-  label-kept c m h = let g = good c m h .label in let x : K .c .0 < trustOf K (c .shape) .0 = ltb-true _ _ h in omega arith
+  label-kept : (c : Cell History) → c isIn end .cells → isHigh (statedTrust K (c .shape)) (K .c) ≡ true → statedTrust K (c .shape) .0 ≤ c .label .0
+  label-kept c m h = let g = good c m h .label in let x : K .c .0 < statedTrust K (c .shape) .0 = ltb-true _ _ h in omega arith
 
-  source-kept : (c : Cell History) → c isIn end .cells → isHigh (trustOf K (c .shape)) (K .c) ≡ true
-      → trustOf K (c .shape) .0 ≤ source (c .content .history) .0
-  source-kept c m h = let g = good c m h .source in let x : K .c .0 < trustOf K (c .shape) .0 = ltb-true _ _ h in omega arith
+  source-kept : (c : Cell History) → c isIn end .cells → isHigh (statedTrust K (c .shape)) (K .c) ≡ true
+      → statedTrust K (c .shape) .0 ≤ source (c .content .history) .0
+  source-kept c m h = let g = good c m h .source in let x : K .c .0 < statedTrust K (c .shape) .0 = ltb-true _ _ h in omega arith
 
   job-kept : (j : Job History) → j isIn end .jobs → isAbove (j .label) (K .c) ≡ true → j .label .0 ≤ source (j .history) .0
   job-kept j m h =

@@ -12,12 +12,12 @@ use Rattle.book.specs.declared.Step.{Step}
 use Rattle.book.specs.declared.Step.the-variants.{Put, Name, Code, Add, New, Read, Write, Relabel, Lower, Start, Exec}
 use Rattle.book.specs.Book.{Book}
 use Rattle.typing.specs.declared.State as T
-use Rattle.typing.specs.Shapes.{viewOf, highTrust, trustOf}
-use Rattle.typing.specs.Rules.{passes, isLow, lowStep, highStep, step}
+use Rattle.typing.specs.Shapes.{viewOf, highTrust, countedTrust}
+use Rattle.typing.specs.Rules.{passes, isLow, lowRule, highRule, stepRule}
 use Rattle.machine.specs.Histories.{sources}
 use Rattle.machine.specs.States.{Job, State}
 use Rattle.machine.specs.Acts.{Effect, keep}
-use Rattle.machine.specs.Steps.{register, through, adding, reading, turnOf}
+use Rattle.machine.specs.Steps.{register, through, addStep, readStep, turnOf}
 use Rattle.integrity.proofs.Trees.{Grounded}
 use Rattle.integrity.proofs.Invariant.{shapeOf, Match, Invariant}
 use Rattle.integrity.proofs.Effects.{EffectOk, keep-ok}
@@ -32,15 +32,15 @@ module _ (K : Book) (size : ℕ) (s : State Label) (v : Invariant K s) (ok : Gro
   low-label : t .p .0 ≤ K .c .0 → j .label .0 ≤ K .c .0
   low-label lo = let h = m .label in omega arith
 
-  low-trust : (i : ℕ) → not (highTrust (K .c) (shapeOf K) i) ≡ true → trustOf (K .c) (shapeOf K) i .0 ≤ K .c .0
+  low-trust : (i : ℕ) → not (highTrust (K .c) (shapeOf K) i) ≡ true → countedTrust (K .c) (shapeOf K) i .0 ≤ K .c .0
   low-trust i e = ltb-false _ _ (not-true _ e)
 
   -- an act through a register
   through-ok : (w : ℕ) (act : ℕ → Effect Label) → ((k : ℕ) → EffectOk K (s .cells) (act k)) → StepOk K (s .cells) j (passes t) (through sources j w act)
   through-ok w act h = cell-ok K (λ k ek. moves-ok K s j t m (act k) (h k))
 
-  low-step : t .p .0 ≤ K .c .0 → (p : Step) → StepOk K (s .cells) j (lowStep (K .c) (shapeOf K) t p) (turnOf sources size s j p)
-  unfolding lowStep turnOf adding reading
+  low-step : t .p .0 ≤ K .c .0 → (p : Step) → StepOk K (s .cells) j (lowRule (K .c) (shapeOf K) t p) (turnOf sources size s j p)
+  unfolding lowRule turnOf addStep readStep
   low-step lo (Put r n) = low-ok K s j t m r _ _ keep keep-ok
   low-step lo (Name r k) = low-ok K s j t m r _ _ keep keep-ok
   low-step lo (Code r b) = low-ok K s j t m r _ _ keep keep-ok
@@ -54,8 +54,8 @@ module _ (K : Book) (size : ℕ) (s : State Label) (v : Invariant K s) (ok : Gro
   low-step lo (Start b) = moves-ok K s j t m _ (low-starting K size s v (j .label) (j .history) (low-label lo) pass b)
   low-step lo (Exec w) = through-ok w _ (λ k. low-executing K size s v (j .label) (j .history) (low-label lo) pass k)
 
-  high-step : K .c .0 < t .p .0 → (p : Step) → StepOk K (s .cells) j (highStep (viewOf K) t p) (turnOf sources size s j p)
-  unfolding highStep turnOf viewOf
+  high-step : K .c .0 < t .p .0 → (p : Step) → StepOk K (s .cells) j (highRule (viewOf K) t p) (turnOf sources size s j p)
+  unfolding highRule turnOf viewOf
   high-step hi (Put r n) = put-ok K size s v ok pass j t m r n
   high-step hi (Name r k) = name-ok K size s v ok pass j t m r k
   high-step hi (Code r b) = code-ok K size s v ok pass j t m r b
@@ -68,6 +68,6 @@ module _ (K : Book) (size : ℕ) (s : State Label) (v : Invariant K s) (ok : Gro
   high-step hi (Start b) = start-ok K size s v ok pass j t m b
   high-step hi (Exec w) = exec-ok K size s v ok pass j t m w hi
 
-  pub step-ok : (p : Step) → StepOk K (s .cells) j (step (viewOf K) t p) (turnOf sources size s j p)
-  unfolding step viewOf
+  pub step-ok : (p : Step) → StepOk K (s .cells) j (stepRule (viewOf K) t p) (turnOf sources size s j p)
+  unfolding stepRule viewOf
   step-ok p = either-ok K (isLow (K .c) (t .p)) (λ e. low-step (leb-true _ _ e) p) (λ e. high-step (leb-false _ _ e) p)

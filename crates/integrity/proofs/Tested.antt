@@ -11,7 +11,7 @@ use Rattle.book.specs.Book.{Book}
 use Rattle.book.proofs.Tests.{clash}
 use Rattle.machine.specs.Histories.{History, hands}
 use Rattle.machine.specs.States.{Cell, Job, State}
-use Rattle.machine.specs.Events.{trustOf}
+use Rattle.machine.specs.Events.{statedTrust}
 use Rattle.integrity.specs.Integrity.{_isIn_, Sentences}
 use Rattle.integrity.specs.Weakened.{every}
 use Rattle.integrity.proofs.Booleans.{both-true}
@@ -19,8 +19,8 @@ use Rattle.integrity.proofs.Booleans.{both-true}
 module _ (K : Book) where
   unfoldable pub cellHolds : Cell History → Bool
   cellHolds c =
-      if isHigh (trustOf K (c .shape)) (K .c)
-      then both (isMet (trustOf K (c .shape)) (c .label)) (every (isMet (trustOf K (c .shape))) (hands (c .content .history)))
+      if isHigh (statedTrust K (c .shape)) (K .c)
+      then both (isMet (statedTrust K (c .shape)) (c .label)) (every (isMet (statedTrust K (c .shape))) (hands (c .content .history)))
       else true
 
   unfoldable pub jobHolds : Job History → Bool
@@ -36,10 +36,10 @@ module _ (K : Book) where
 
   cell-tested : (s : State History) → Sentences K s → (c : Cell History) → c isIn s .cells → cellHolds c ≡ true
   unfolding cellHolds
-  cell-tested s h c m = go (isHigh (trustOf K (c .shape)) (K .c)) refl
+  cell-tested s h c m = go (isHigh (statedTrust K (c .shape)) (K .c)) refl
     where
-      go : (b : Bool) → isHigh (trustOf K (c .shape)) (K .c) ≡ b → cellHolds c ≡ true
-      go true p = simp p (both-true _ _ (h .labels c m p) (member-every (isMet (trustOf K (c .shape))) (hands (c .content .history)) (h .values c m p)))
+      go : (b : Bool) → isHigh (statedTrust K (c .shape)) (K .c) ≡ b → cellHolds c ≡ true
+      go true p = simp p (both-true _ _ (h .labels c m p) (member-every (isMet (statedTrust K (c .shape))) (hands (c .content .history)) (h .values c m p)))
       go false p = simp p
 
   job-tested : (s : State History) → Sentences K s → (j : Job History) → j isIn s .jobs → jobHolds j ≡ true

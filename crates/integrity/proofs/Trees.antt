@@ -14,7 +14,7 @@ use Rattle.labels.specs.declared.Label.{Label}
 use Rattle.book.specs.declared.Shape.{Shape}
 use Rattle.book.specs.Control.{both, either}
 use Rattle.book.proofs.Tests.{clash, both-left, both-right, either-false}
-use Rattle.typing.specs.Shapes.{isCode, isCell, boundOf, contentOf, trustOf, alikeIn, alike}
+use Rattle.typing.specs.Shapes.{isCodeShape, isCellShape, boundOf, contentOf, countedTrust, alikeIn, alike}
 
 -- contents are lower-numbered: refusal 6
 pub record Grounded (shape : ℕ → Shape) : Type 0 where
@@ -73,18 +73,18 @@ module _ (c : Label) (shape : ℕ → Shape) where
   unfoldable pub treeIn : ℕ → ℕ → Tree
   treeIn zero i = plain
   treeIn (suc n) i =
-      node (isCode c shape i) (isCell c shape i) (boundOf c shape i .0) (treeIn n (contentOf c shape i)) (trustOf c shape i .0)
+      node (isCodeShape c shape i) (isCellShape c shape i) (boundOf c shape i .0) (treeIn n (contentOf c shape i)) (countedTrust c shape i .0)
 
   unfoldable pub tree : ℕ → Tree
   tree i = treeIn (suc i) i
 
-  pub tree-trust : (i : ℕ) (t : Tree) (S : ℕ) → tree i ≡ cell t S → S ≡ trustOf c shape i .0
+  pub tree-trust : (i : ℕ) (t : Tree) (S : ℕ) → tree i ≡ cell t S → S ≡ countedTrust c shape i .0
   unfolding tree treeIn node
-  tree-trust i t S e = go (isCode c shape i) refl (isCell c shape i) refl
+  tree-trust i t S e = go (isCodeShape c shape i) refl (isCellShape c shape i) refl
     where
-      go : (a : Bool) → isCode c shape i ≡ a → (b : Bool) → isCell c shape i ≡ b → S ≡ trustOf c shape i .0
+      go : (a : Bool) → isCodeShape c shape i ≡ a → (b : Bool) → isCellShape c shape i ≡ b → S ≡ countedTrust c shape i .0
       go true p b q = let z : _≡_ {A = Tree} (code (boundOf c shape i .0)) (cell t S) = simp p at e in cc
-      go false p true q = let z : _≡_ {A = Tree} (cell (treeIn i (contentOf c shape i)) (trustOf c shape i .0)) (cell t S) = simp (p, q) at e in cc
+      go false p true q = let z : _≡_ {A = Tree} (cell (treeIn i (contentOf c shape i)) (countedTrust c shape i .0)) (cell t S) = simp (p, q) at e in cc
       go false p false q = let z : _≡_ {A = Tree} plain (cell t S) = simp (p, q) at e in cc
 
   module _ (ok : Grounded shape) where
@@ -98,27 +98,27 @@ module _ (c : Label) (shape : ℕ → Shape) where
 
     tree-node : (i : ℕ)
         → tree i
-        ≡ node (isCode c shape i) (isCell c shape i) (boundOf c shape i .0) (tree (contentOf c shape i)) (trustOf c shape i .0)
+        ≡ node (isCodeShape c shape i) (isCellShape c shape i) (boundOf c shape i .0) (tree (contentOf c shape i)) (countedTrust c shape i .0)
     unfolding tree treeIn
     tree-node i =
         node-only _ _ _ _ _ _
         (λ l. let d = ok .falls i (eqb-true _ _ l) in deep i (suc (contentOf c shape i)) (contentOf c shape i) (omega arith) (omega arith))
 
-    pub tree-cell : (i : ℕ) → isCell c shape i ≡ true → tree i ≡ cell (tree (contentOf c shape i)) (trustOf c shape i .0)
+    pub tree-cell : (i : ℕ) → isCellShape c shape i ≡ true → tree i ≡ cell (tree (contentOf c shape i)) (countedTrust c shape i .0)
     unfolding node
-    tree-cell i e = rw tree-node (go (isCode c shape i) refl)
+    tree-cell i e = rw tree-node (go (isCodeShape c shape i) refl)
       where
-        go : (b : Bool) → isCode c shape i ≡ b
-            → node (isCode c shape i) (isCell c shape i) (boundOf c shape i .0) (tree (contentOf c shape i)) (trustOf c shape i .0)
-            ≡ cell (tree (contentOf c shape i)) (trustOf c shape i .0)
+        go : (b : Bool) → isCodeShape c shape i ≡ b
+            → node (isCodeShape c shape i) (isCellShape c shape i) (boundOf c shape i .0) (tree (contentOf c shape i)) (countedTrust c shape i .0)
+            ≡ cell (tree (contentOf c shape i)) (countedTrust c shape i .0)
         go true f = let x = eqb-true (shape i .kind) 17 f in let y = eqb-true (shape i .kind) 18 e in absurd (omega arith)
         go false f = simp (f, e)
 
-    pub tree-code : (i : ℕ) → isCode c shape i ≡ true → tree i ≡ code (boundOf c shape i .0)
+    pub tree-code : (i : ℕ) → isCodeShape c shape i ≡ true → tree i ≡ code (boundOf c shape i .0)
     unfolding node
     tree-code i e = rw tree-node (simp e)
 
-    pub tree-plain : (i : ℕ) → isCode c shape i ≡ false → isCell c shape i ≡ false → tree i ≡ plain
+    pub tree-plain : (i : ℕ) → isCodeShape c shape i ≡ false → isCellShape c shape i ≡ false → tree i ≡ plain
     unfolding node
     tree-plain i e f = rw tree-node (simp (e, f))
 
@@ -127,7 +127,7 @@ module _ (c : Label) (shape : ℕ → Shape) where
     alike-in zero i j p e = absurd (omega arith)
     alike-in (suc n) i j p e =
         rw (tree-node i, tree-node j)
-        (level (isCode c shape i) (isCell c shape i) (isCode c shape j) (isCell c shape j) (boundOf c shape i .0) (boundOf c shape j .0) (trustOf c shape i .0) (trustOf c shape j .0) (tree (contentOf c shape i)) (tree (contentOf c shape j)) _
+        (level (isCodeShape c shape i) (isCellShape c shape i) (isCodeShape c shape j) (isCellShape c shape j) (boundOf c shape i .0) (boundOf c shape j .0) (countedTrust c shape i .0) (countedTrust c shape j .0) (tree (contentOf c shape i)) (tree (contentOf c shape j)) _
         (apart (shape i .kind)) (apart (shape j .kind))
         (λ l r. let d = ok .falls i (eqb-true _ _ l) in alike-in n (contentOf c shape i) (contentOf c shape j) (omega arith) r) e)
 

@@ -14,7 +14,7 @@ use Rattle.book.specs.Control.{if_then_else_, onSome}
 use Rattle.typing.specs.declared.Known.{Known}
 use Rattle.typing.specs.declared.Known.the-variants as N
 use Rattle.typing.specs.declared.State as T
-use Rattle.typing.specs.Rules.{Typed, passes, stuck, breaks, need, free}
+use Rattle.typing.specs.Rules.{Typed, passes, stuck, breaks, breaksUnless, stuckUnless}
 use Rattle.typing.specs.Rules as R
 use Rattle.machine.specs.States.{Job}
 use Rattle.machine.specs.Acts.{Effect, blocked}
@@ -42,13 +42,13 @@ module _ (K : Book) where
 
     -- the cases of the rule
     module _ {o : Turn Label} where
-      pub need-ok : {b : Bool} {t : Typed} → (b ≡ true → StepOk cs j t o) → StepOk cs j (need b t) o
-      unfolding need
+      pub need-ok : {b : Bool} {t : Typed} → (b ≡ true → StepOk cs j t o) → StepOk cs j (breaksUnless b t) o
+      unfolding breaksUnless
       need-ok {b = true} f = f refl
       need-ok {b = false} f = broken
 
-      pub free-ok : {b : Bool} {t : Typed} → (b ≡ true → StepOk cs j t o) → (b ≡ false → StepOk cs j stuck o) → StepOk cs j (free b t) o
-      unfolding free
+      pub free-ok : {b : Bool} {t : Typed} → (b ≡ true → StepOk cs j t o) → (b ≡ false → StepOk cs j stuck o) → StepOk cs j (stuckUnless b t) o
+      unfolding stuckUnless
       free-ok {b = true} f g = f refl
       free-ok {b = false} f g = g refl
 
@@ -59,15 +59,15 @@ module _ (K : Book) where
       pub some-ok : {A : Type 0} {m : Option A} {f : A → Typed} → ((a : A) → m ≡ some a → StepOk cs j (f a) o) → StepOk cs j (onSome m breaks f) o
       some-ok g = some-both (λ t. StepOk cs j t o) broken g
 
-      pub known-cell-ok : {k : Known} {f : ℕ → Typed} → ((i : ℕ) → k ≡ N.CellOf i → StepOk cs j (f i) o) → StepOk cs j (R.onCell k f) o
-      unfolding R.onCell
+      pub known-cell-ok : {k : Known} {f : ℕ → Typed} → ((i : ℕ) → k ≡ N.CellOf i → StepOk cs j (f i) o) → StepOk cs j (R.onKnownCell k f) o
+      unfolding R.onKnownCell
       known-cell-ok {k = N.Unknown} g = broken
       known-cell-ok {k = N.Plain} g = broken
       known-cell-ok {k = N.Code b} g = broken
       known-cell-ok {k = N.CellOf i} g = g i refl
 
-      pub known-code-ok : {k : Known} {f : Label → Typed} → ((b : Label) → k ≡ N.Code b → StepOk cs j (f b) o) → StepOk cs j (R.onCode k f) o
-      unfolding R.onCode
+      pub known-code-ok : {k : Known} {f : Label → Typed} → ((b : Label) → k ≡ N.Code b → StepOk cs j (f b) o) → StepOk cs j (R.onKnownCode k f) o
+      unfolding R.onKnownCode
       known-code-ok {k = N.Unknown} g = broken
       known-code-ok {k = N.Plain} g = broken
       known-code-ok {k = N.Code b} g = g b refl

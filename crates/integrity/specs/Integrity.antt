@@ -12,7 +12,7 @@ use Rattle.typing.specs.Verdict.{verdict}
 use Rattle.machine.specs.declared.Event.{Event}
 use Rattle.machine.specs.Histories.{History, hands, lists}
 use Rattle.machine.specs.States.{Cell, Job, State}
-use Rattle.machine.specs.Events.{trustOf, launchLabel, outcomeOf, freshState, stateAfter}
+use Rattle.machine.specs.Events.{statedTrust, launchLabel, outcomeOf, freshState, stateAfter}
 use Rattle.machine.specs.Records.{CellRecord, JobRecord, cellRecords, jobRecords}
 
 -- "All cells and jobs in use are meant, finished jobs too." "A hand is a label that stands in a history".
@@ -23,9 +23,9 @@ x isIn xs = List·Memᴰ x xs
 -- The three sentences: no cell of trust above C holds a value with a label below that trust in its history; no such cell's label is
 -- below its trust; no job above C has a label below its own in its history.
 pub record Sentences (K : Book) (s : State History) : Type 0 where
-  pub values : (c : Cell History) → c isIn s .cells → isHigh (trustOf K (c .shape)) (K .c) ≡ true
-      → (hand : Label) → hand isIn hands (c .content .history) → isMet (trustOf K (c .shape)) hand ≡ true
-  pub labels : (c : Cell History) → c isIn s .cells → isHigh (trustOf K (c .shape)) (K .c) ≡ true → isMet (trustOf K (c .shape)) (c .label) ≡ true
+  pub values : (c : Cell History) → c isIn s .cells → isHigh (statedTrust K (c .shape)) (K .c) ≡ true
+      → (hand : Label) → hand isIn hands (c .content .history) → isMet (statedTrust K (c .shape)) hand ≡ true
+  pub labels : (c : Cell History) → c isIn s .cells → isHigh (statedTrust K (c .shape)) (K .c) ≡ true → isMet (statedTrust K (c .shape)) (c .label) ≡ true
   pub jobs : (j : Job History) → j isIn s .jobs → isAbove (j .label) (K .c) ≡ true
       → (hand : Label) → hand isIn hands (j .history) → reaches hand (j .label) ≡ true
 

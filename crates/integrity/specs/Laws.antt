@@ -16,7 +16,7 @@ use Rattle.machine.specs.declared.Event.{Event}
 use Rattle.machine.specs.declared.Event.the-variants.{StepOf, WriteBy, RelabelBy, NewBy, ExecBy, StartBy}
 use Rattle.machine.specs.Histories.{History, hands, lists}
 use Rattle.machine.specs.States.{Cell, Job, State}
-use Rattle.machine.specs.Acts.{Effect, launch, executing}
+use Rattle.machine.specs.Acts.{Effect, launch, execAct}
 use Rattle.machine.specs.Events.{noSuch, unchanged, outcomeOf}
 use Rattle.integrity.specs.Integrity.{_isIn_}
 
@@ -32,7 +32,7 @@ pub record Launched (l : Label) (h : History) (c : Cell History) (b : ℕ) (j : 
 abbrev pub ExecHistory : Type 0
 ExecHistory = (size : ℕ) (s : State History) (l : Label) (h : History) (k b : ℕ) (c : Cell History)
     → getElem? (s .cells) k ≡ some c → c .content .value ≡ CodeName b → length (s .jobs) < size
-    → (j : Job History) × (executing lists size s l h k ≡ launch j) × Launched l h c b j
+    → (j : Job History) × (execAct lists size s l h k ≡ launch j) × Launched l h c b j
 
 -- the label that an outsider's event claims
 abbrev pub claimed : Event → Option Label

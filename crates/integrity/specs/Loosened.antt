@@ -25,9 +25,9 @@ use Rattle.machine.specs.declared.Event.the-variants.{StepOf, WriteBy, RelabelB
 use Rattle.machine.specs.Control.{given, onCode}
 use Rattle.machine.specs.Histories.{History, append, lists}
 use Rattle.machine.specs.States.{Traced, Job, State}
-use Rattle.machine.specs.Acts.{Effect, blocked, keep, store, launch, unless, isFree, execLabel, acted, freshJob, making, starting}
+use Rattle.machine.specs.Acts.{Effect, blocked, keep, store, launch, blockedUnless, isFree, execLabel, acted, freshJob, newAct, startAct}
 use Rattle.machine.specs.Steps.{Turn, register, turn, stay, moved, gets, through, turnOf}
-use Rattle.machine.specs.Events.{Outcome, tableSize, launchLabel, finished, noSuch, blockOf, trustOf, isOutsider, isLabel, isBlock, isCell, isValue, unchanged}
+use Rattle.machine.specs.Events.{Outcome, tableSize, launchLabel, finished, noSuch, blockOf, statedTrust, isOutsider, isLabel, blockExists, cellExists, valueExists, unchanged}
 use Rattle.machine.specs.Events.{landed, turnLanded, ifSuch, brought, freshState, outcomeOf, stateAfter}
 use Rattle.integrity.specs.Integrity.{Sentences}
 use Rattle.integrity.specs.Weakened.{instead, asked, raised}
@@ -37,40 +37,40 @@ module _ (weakened : String) where
   -- by an actor of label l and history h
   module _ (s : State History) (l : Label) (h : History) where
     -- "write: blocked unless w is a cell with label at most the job's"
-    unfoldable pub writingBy : ℕ → Traced History → Effect History
-    writingBy k v =
+    unfoldable pub writeActBy : ℕ → Traced History → Effect History
+    writeActBy k v =
         onSome (getElem? (s .cells) k) blocked
-        (λ c. unless (asked weakened "write: label at most the job's" (reaches l (c .label)))
+        (λ c. blockedUnless (asked weakened "write: label at most the job's" (reaches l (c .label)))
         (store k (record { shape = c .shape; label = c .label; content = acted lists h v })))
 
     -- "relabel: blocked unless w is a cell and its old and new label are at most the job's."
-    unfoldable pub relabellingBy : ℕ → Label → Effect History
-    relabellingBy k o =
+    unfoldable pub relabelActBy : ℕ → Label → Effect History
+    relabelActBy k o =
         onSome (getElem? (s .cells) k) blocked
-        (λ c. unless (both (asked weakened "relabel: old label at most the job's" (reaches l (c .label)))
+        (λ c. blockedUnless (both (asked weakened "relabel: old label at most the job's" (reaches l (c .label)))
         (asked weakened "relabel: new label at most the job's" (reaches l o)))
         (store k (record { shape = c .shape; label = o; content = c .content })))
 
     -- "new: .. a cell with the job's label"; where this place is weakened, with label 0
-    abbrev pub makingBy : ℕ → Traced History → Effect History
-    makingBy i v = making lists tableSize s (instead weakened "new: with the job's label" (label 0) l) h i v
+    abbrev pub newActBy : ℕ → Traced History → Effect History
+    newActBy i v = newAct lists tableSize s (instead weakened "new: with the job's label" (label 0) l) h i v
 
     -- "start: .. a job at this label"; where this place is weakened, at 15
-    abbrev pub startingBy : ℕ → Effect History
-    startingBy b = starting lists tableSize s (instead weakened "start: at this label" topLabel l) h b
+    abbrev pub startActBy : ℕ → Effect History
+    startActBy b = startAct lists tableSize s (instead weakened "start: at this label" topLabel l) h b
 
     -- "exec: .. a job at the lower of the two labels, history: caller's, code's, new label."; where this place is weakened, at
     -- the cell's
-    unfoldable pub executingBy : ℕ → Effect History
-    executingBy k =
+    unfoldable pub execActBy : ℕ → Effect History
+    execActBy k =
         onSome (getElem? (s .cells) k) blocked
         (λ c. onCode (c .content .value) blocked
         (λ b. let m = instead weakened "exec: the lower of the two labels" (c .label) (execLabel l (c .label)) in
-        unless (isFree tableSize (s .jobs)) (launch (freshJob lists b m (append (append h (c .content .history)) (lists .one m))))))
+        blockedUnless (isFree tableSize (s .jobs)) (launch (freshJob lists b m (append (append h (c .content .history)) (lists .one m))))))
 
   -- "lower Q: blocked if Q is above the job's label; else the label is Q, appended to the job's history."
-  unfoldable pub loweringBy : Job History → Label → Turn History
-  loweringBy j q =
+  unfoldable pub lowerStepBy : Job History → Label → Turn History
+  lowerStepBy j q =
       given (asked weakened "lower: Q is above the job's label" (reaches (j .label) q))
       (turn lists
       (record {
@@ -94,13 +94,13 @@ module _ (weakened : String) where
     turnBy (Code r b) = same (Code r b)
     turnBy (Add r a b) = same (Add r a b)
     turnBy (New r i a) =
-        turn lists (gets lists j r (CellName (length (s .cells))) (j .history)) (makingBy s (j .label) (j .history) i (register lists j a))
+        turn lists (gets lists j r (CellName (length (s .cells))) (j .history)) (newActBy s (j .label) (j .history) i (register lists j a))
     turnBy (Read r w) = same (Read r w)
-    turnBy (Write w a) = through lists j w (λ k. writingBy s (j .label) (j .history) k (register lists j a))
-    turnBy (Relabel w o) = through lists j w (λ k. relabellingBy s (j .label) (j .history) k o)
-    turnBy (Lower q) = loweringBy j q
-    turnBy (Start b) = turn lists (moved lists j) (startingBy s (j .label) (j .history) b)
-    turnBy (Exec w) = through lists j w (executingBy s (j .label) (j .history))
+    turnBy (Write w a) = through lists j w (λ k. writeActBy s (j .label) (j .history) k (register lists j a))
+    turnBy (Relabel w o) = through lists j w (λ k. relabelActBy s (j .label) (j .history) k o)
+    turnBy (Lower q) = lowerStepBy j q
+    turnBy (Start b) = turn lists (moved lists j) (startActBy s (j .label) (j .history) b)
+    turnBy (Exec w) = through lists j w (execActBy s (j .label) (j .history))
 
   module _ (K : Book) where
     -- "Q above C" is no such
@@ -109,24 +109,24 @@ module _ (weakened : String) where
 
     -- event 83: "a shape that is no cell shape or has trust above C" is no such
     abbrev pub lowShape : ℕ → Bool
-    lowShape i = both (hasCellShape K i) (not (isHigh (trustOf K i) (raised weakened "83: trust above C" (K .c))))
+    lowShape i = both (hasCellShape K i) (not (isHigh (statedTrust K i) (raised weakened "83: trust above C" (K .c))))
 
     unfoldable pub outcomeBy : State History → Event → Outcome History
     outcomeBy s (StepOf i) =
         onSome (getElem? (s .jobs) i) (unchanged noSuch s)
         (λ j. onSome (getElem? (blockOf K (j .block) .steps) (j .position)) (unchanged finished s) (λ p. turnLanded s i (turnBy s j p)))
     outcomeBy s (WriteBy q k v n) =
-        ifSuch s (both (outsider "81: Q above C" q) (both (isCell s k) (isValue K s v n)))
-        (landed s s (writingBy s q (lists .one q) k (brought lists q v n)))
+        ifSuch s (both (outsider "81: Q above C" q) (both (cellExists s k) (valueExists K s v n)))
+        (landed s s (writeActBy s q (lists .one q) k (brought lists q v n)))
     outcomeBy s (RelabelBy q k o) =
-        ifSuch s (both (outsider "82: Q above C" q) (both (isCell s k) (isLabel o))) (landed s s (relabellingBy s q (lists .one q) k o))
+        ifSuch s (both (outsider "82: Q above C" q) (both (cellExists s k) (isLabel o))) (landed s s (relabelActBy s q (lists .one q) k o))
     outcomeBy s (NewBy q i v n) =
-        ifSuch s (both (isOutsider K q) (both (lowShape i) (isValue K s v n)))
-        (landed s s (makingBy s q (lists .one q) i (brought lists q v n)))
+        ifSuch s (both (isOutsider K q) (both (lowShape i) (valueExists K s v n)))
+        (landed s s (newActBy s q (lists .one q) i (brought lists q v n)))
     outcomeBy s (ExecBy q k) =
-        ifSuch s (both (outsider "84: Q above C" q) (isCell s k)) (landed s s (executingBy s q (lists .one q) k))
+        ifSuch s (both (outsider "84: Q above C" q) (cellExists s k)) (landed s s (execActBy s q (lists .one q) k))
     outcomeBy s (StartBy q b) =
-        ifSuch s (both (outsider "85: Q above C" q) (isBlock K b)) (landed s s (startingBy s q (lists .one q) b))
+        ifSuch s (both (outsider "85: Q above C" q) (blockExists K b)) (landed s s (startActBy s q (lists .one q) b))
 
     unfoldable pub stateBy : State History → List Event → State History
     stateBy s [] = s

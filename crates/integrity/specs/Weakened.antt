@@ -27,8 +27,8 @@ use Rattle.typing.specs.declared.Known.{Known}
 use Rattle.typing.specs.declared.Known.the-variants as N
 use Rattle.typing.specs.declared.State.{State}
 use Rattle.typing.specs.declared.Verdict.the-variants.{Accepted, Refused}
-use Rattle.typing.specs.Shapes.{View, viewOf, isPlain, isCode, isCell, boundOf, contentOf, trustOf, highTrust, knownOf, knownValue}
-use Rattle.typing.specs.Rules.{Typed, passes, stuck, breaks, need, free, onCell, onCode, register, gives, givesLow, fresh, used, isLow, known, lowered, addable, lowStep, highStep, step}
+use Rattle.typing.specs.Shapes.{View, viewOf, isPlainShape, isCodeShape, isCellShape, boundOf, contentOf, countedTrust, highTrust, knownOf, knownValue}
+use Rattle.typing.specs.Rules.{Typed, passes, stuck, breaks, breaksUnless, stuckUnless, onKnownCell, onKnownCode, registerType, gives, givesLow, fresh, used, isLow, known, lowersTo, addable, lowRule, highRule, stepRule}
 use Rattle.typing.specs.Verdict.{verdict}
 use Rattle.machine.specs.declared.Event.{Event}
 use Rattle.machine.specs.Histories.{lists}
@@ -56,7 +56,7 @@ module _ (weakened : String) where
 
     -- "a trust .. at or below C counts as 0"; where this place is weakened, at or below C + 1
     abbrev pub trustBy : String → ℕ → ℕ
-    trustBy place i = trustOf (raised place c) shape i .0
+    trustBy place i = countedTrust (raised place c) shape i .0
 
     -- "Two shapes are alike when both are plain, both code with one bound, or both cells with equal trust and alike contents."
     -- Where "one bound" is weakened, a larger or a smaller one will do; and so with "equal trust".
@@ -67,13 +67,13 @@ module _ (weakened : String) where
         let d = boundOf c shape j .0 in
         let s = trustBy "alike: trust above C" i in
         let u = trustBy "alike: trust above C" j in
-        either (both (asked "alike: the first is plain" (isPlain c shape i)) (asked "alike: the second is plain" (isPlain c shape j)))
+        either (both (asked "alike: the first is plain" (isPlainShape c shape i)) (asked "alike: the second is plain" (isPlainShape c shape j)))
         (either
-        (both (asked "alike: the first is code" (isCode c shape i))
-        (both (asked "alike: the second is code" (isCode c shape j))
+        (both (asked "alike: the first is code" (isCodeShape c shape i))
+        (both (asked "alike: the second is code" (isCodeShape c shape j))
         (instead "alike: the first bound is no larger" (leb d b) (instead "alike: the first bound is no smaller" (leb b d) (eqb b d)))))
-        (both (asked "alike: the first is a cell" (isCell c shape i))
-        (both (asked "alike: the second is a cell" (isCell c shape j))
+        (both (asked "alike: the first is a cell" (isCellShape c shape i))
+        (both (asked "alike: the second is a cell" (isCellShape c shape j))
         (both (instead "alike: the first trust is no higher" (leb u s) (instead "alike: the first trust is no lower" (leb s u) (eqb s u)))
         (asked "alike: alike contents" (alikeBy n (contentOf c shape i) (contentOf c shape j)))))))
 
@@ -81,94 +81,94 @@ module _ (weakened : String) where
     -- are not looked at.
     unfoldable pub fitsBy : Known → ℕ → Bool
     fitsBy N.Unknown i = false
-    fitsBy N.Plain i = isPlain c shape i
-    fitsBy (N.Code b) i = both (isCode c shape i) (asked "fits: bound at most B" (reaches b (boundOf c shape i)))
+    fitsBy N.Plain i = isPlainShape c shape i
+    fitsBy (N.Code b) i = both (isCodeShape c shape i) (asked "fits: bound at most B" (reaches b (boundOf c shape i)))
     fitsBy (N.CellOf j) i = asked "fits: others when alike" (alikeBy (instead "alike: contents of contents" 2 (suc j)) j i)
 
     -- w's shape, "a cell with used effect above C"; where this place is weakened, whatever its effect is
     abbrev pub cellBy : String → State → ℕ → Known
-    cellBy place t w = instead place (register t w .known) (known c t w)
+    cellBy place t w = instead place (registerType t w .known) (known c t w)
 
     -- "With P at or below C every step passes, except new with trust above C"
     abbrev pub lowNewBy : State → ℕ → ℕ → Typed
-    lowNewBy t r i = need (asked "new at low P" (not (high "new at low P: trust above C" i))) (givesLow t r)
+    lowNewBy t r i = breaksUnless (asked "new at low P" (not (high "new at low P: trust above C" i))) (givesLow t r)
 
     -- "new: low trust passes; otherwise an earlier lower must stand in the block, the content fits, and trust is at most its used effect",
     -- which is the smaller of its effect and P
-    abbrev pub makingBy : State → ℕ → ℕ → ℕ → Typed
-    makingBy t r i a =
-        need
-        (both (isCell c shape i)
+    abbrev pub newRuleBy : State → ℕ → ℕ → ℕ → Typed
+    newRuleBy t r i a =
+        breaksUnless
+        (both (isCellShape c shape i)
         (either (not (high "new: trust above C" i))
         (both (asked "new: an earlier lower" (t .lowered))
         (both (asked "new: the content fits" (fitsBy (known c t a) (contentOf c shape i)))
-        (isMet (trustOf c shape i)
-        (instead "new: trust is at most P" (register t a .effect) (instead "new: trust is at most its effect" (t .p) (used t a))))))))
+        (isMet (countedTrust c shape i)
+        (instead "new: trust is at most P" (registerType t a .effect) (instead "new: trust is at most its effect" (t .p) (used t a))))))))
         (gives t r (N.CellOf i) (t .p))
 
     -- "read: w of low effect gives low; else w is a cell, and the result has its content shape and the smaller of S and P."
-    abbrev pub readingBy : State → ℕ → ℕ → Typed
-    readingBy t r w =
-        if instead "read: w of low effect" false (isLow c (register t w .effect)) then givesLow t r
-        else onCell (cellBy "read: w of low effect" t w)
-        (λ i. gives t r (knownOf c shape (contentOf c shape i)) (instead "read: the smaller of S and P" (t .p) (capped (trustOf c shape i) (t .p))))
+    abbrev pub readRuleBy : State → ℕ → ℕ → Typed
+    readRuleBy t r w =
+        if instead "read: w of low effect" false (isLow c (registerType t w .effect)) then givesLow t r
+        else onKnownCell (cellBy "read: w of low effect" t w)
+        (λ i. gives t r (knownOf c shape (contentOf c shape i)) (instead "read: the smaller of S and P" (t .p) (capped (countedTrust c shape i) (t .p))))
 
     -- "write: stuck if P is below S; low S passes; else a fits and S is at most its used effect." Where "P is below S" is weakened, it is stuck
     -- at P = S too.
-    abbrev pub writingBy : State → ℕ → ℕ → Typed
-    writingBy t w a =
-        onCell (cellBy "write: w of used effect above C" t w)
-        (λ i. free (instead "write: P is below S" (not (covers (trustOf c shape i) (t .p))) (isMet (trustOf c shape i) (t .p)))
-        (need
+    abbrev pub writeRuleBy : State → ℕ → ℕ → Typed
+    writeRuleBy t w a =
+        onKnownCell (cellBy "write: w of used effect above C" t w)
+        (λ i. stuckUnless (instead "write: P is below S" (not (covers (countedTrust c shape i) (t .p))) (isMet (countedTrust c shape i) (t .p)))
+        (breaksUnless
         (either (not (high "write: S above C" i))
         (both (asked "write: a fits" (fitsBy (known c t a) (contentOf c shape i)))
-        (asked "write: S is at most its used effect" (isMet (trustOf c shape i) (used t a)))))
+        (asked "write: S is at most its used effect" (isMet (countedTrust c shape i) (used t a)))))
         (passes t)))
 
     -- "relabel to O: stuck if P is below S or O; else S is at most O." Where "P is below" is weakened, it is stuck at the same label too.
-    abbrev pub relabellingBy : State → ℕ → Label → Typed
-    relabellingBy t w o =
-        onCell (cellBy "relabel: w of used effect above C" t w)
-        (λ i. free
-        (both (instead "relabel: P is below S" (not (covers (trustOf c shape i) (t .p))) (isMet (trustOf c shape i) (t .p)))
+    abbrev pub relabelRuleBy : State → ℕ → Label → Typed
+    relabelRuleBy t w o =
+        onKnownCell (cellBy "relabel: w of used effect above C" t w)
+        (λ i. stuckUnless
+        (both (instead "relabel: P is below S" (not (covers (countedTrust c shape i) (t .p))) (isMet (countedTrust c shape i) (t .p)))
         (instead "relabel: P is below O" (isAbove (t .p) o) (reaches (t .p) o)))
-        (need (asked "relabel: S is at most O" (isMet (trustOf (raised "relabel: S above C" c) shape i) o)) (passes t)))
+        (breaksUnless (asked "relabel: S is at most O" (isMet (countedTrust (raised "relabel: S above C" c) shape i) o)) (passes t)))
 
     -- "exec: the content is code with bound at least P, and S at least P."
-    abbrev pub executingBy : State → ℕ → Typed
-    executingBy t w =
-        onCell (cellBy "exec: w of used effect above C" t w)
-        (λ i. onCode (knownOf c shape (contentOf c shape i))
-        (λ k. need
-        (both (asked "exec: bound at least P" (reaches k (t .p))) (asked "exec: S at least P" (covers (trustOf c shape i) (t .p))))
+    abbrev pub execRuleBy : State → ℕ → Typed
+    execRuleBy t w =
+        onKnownCell (cellBy "exec: w of used effect above C" t w)
+        (λ i. onKnownCode (knownOf c shape (contentOf c shape i))
+        (λ k. breaksUnless
+        (both (asked "exec: bound at least P" (reaches k (t .p))) (asked "exec: S at least P" (covers (countedTrust c shape i) (t .p))))
         (passes t)))
 
     -- "add: operands of effect above C must be plain; least effect."
-    abbrev pub addingBy : State → ℕ → ℕ → ℕ → Typed
-    addingBy t r a b =
-        need (both (addable c t a) (addable c t b))
+    abbrev pub addRuleBy : State → ℕ → ℕ → ℕ → Typed
+    addRuleBy t r a b =
+        breaksUnless (both (addable c t a) (addable c t b))
         (gives t r N.Plain
         (instead "add: the first's effect" (used t b) (instead "add: the second's effect" (used t a) (lower (used t a) (used t b)))))
 
     -- "lower Q, at every P: stuck if Q is above both P and C; else P is Q." Where "above P" or "above C" is weakened, it is stuck at the same label
     -- too; where "and C" is, if Q is above P.
-    abbrev pub loweringBy : State → Label → Typed
-    loweringBy t q =
-        free
+    abbrev pub lowerRuleBy : State → Label → Typed
+    lowerRuleBy t q =
+        stuckUnless
         (either (instead "lower: Q is above P" (isAbove (t .p) q) (reaches (t .p) q))
         (instead "lower: Q is above C" (isAbove c q) (instead "lower: both P and C" false (isLow c q))))
-        (lowered t (instead "lower: P is Q" (t .p) q))
+        (lowersTo t (instead "lower: P is Q" (t .p) q))
 
   -- "start: the block's bound is at least P."
-  abbrev pub startingBy : State → Option Label → Typed
-  startingBy t bound = onSome bound breaks (λ k. need (asked "start: bound at least P" (reaches k (t .p))) (passes t))
+  abbrev pub startRuleBy : State → Option Label → Typed
+  startRuleBy t bound = onSome bound breaks (λ k. breaksUnless (asked "start: bound at least P" (reaches k (t .p))) (passes t))
 
   module _ (B : View) where
     -- "A declared cell of trust above C needs label at least trust and a fitting value. Others need nothing."
     unfoldable pub declaredBy : Declared → Bool
     declaredBy d =
         if high (B .c) (B .shape) "declared: trust above C" (d .shape)
-        then both (asked "declared: label at least trust" (isMet (trustOf (B .c) (B .shape) (d .shape)) (d .label)))
+        then both (asked "declared: label at least trust" (isMet (countedTrust (B .c) (B .shape) (d .shape)) (d .label)))
         (asked "declared: a fitting value"
         (fitsBy (B .c) (B .shape) (knownValue (B .cell) (B .bound) (d .value)) (contentOf (B .c) (B .shape) (d .shape))))
         else true
@@ -179,20 +179,20 @@ module _ (weakened : String) where
 
     -- a step: at low P as it is, else by x
     abbrev pub marked : State → Step → Typed → Typed
-    marked t p x = atLow t (lowStep (B .c) (B .shape) t p) x
+    marked t p x = atLow t (lowRule (B .c) (B .shape) t p) x
 
-    unfoldable pub stepBy : State → Step → Typed
-    stepBy t (Put r n) = marked t (Put r n) (highStep B t (Put r n))
-    stepBy t (Name r k) = marked t (Name r k) (highStep B t (Name r k))
-    stepBy t (Code r b) = marked t (Code r b) (highStep B t (Code r b))
-    stepBy t (Add r a b) = marked t (Add r a b) (addingBy (B .c) (B .shape) t r a b)
-    stepBy t (New r i a) = atLow t (lowNewBy (B .c) (B .shape) t r i) (makingBy (B .c) (B .shape) t r i a)
-    stepBy t (Read r w) = marked t (Read r w) (readingBy (B .c) (B .shape) t r w)
-    stepBy t (Write w a) = marked t (Write w a) (writingBy (B .c) (B .shape) t w a)
-    stepBy t (Relabel w o) = marked t (Relabel w o) (relabellingBy (B .c) (B .shape) t w o)
-    stepBy t (Lower q) = loweringBy (B .c) (B .shape) t q
-    stepBy t (Start b) = marked t (Start b) (startingBy t (B .bound b))
-    stepBy t (Exec w) = marked t (Exec w) (executingBy (B .c) (B .shape) t w)
+    unfoldable pub stepRuleBy : State → Step → Typed
+    stepRuleBy t (Put r n) = marked t (Put r n) (highRule B t (Put r n))
+    stepRuleBy t (Name r k) = marked t (Name r k) (highRule B t (Name r k))
+    stepRuleBy t (Code r b) = marked t (Code r b) (highRule B t (Code r b))
+    stepRuleBy t (Add r a b) = marked t (Add r a b) (addRuleBy (B .c) (B .shape) t r a b)
+    stepRuleBy t (New r i a) = atLow t (lowNewBy (B .c) (B .shape) t r i) (newRuleBy (B .c) (B .shape) t r i a)
+    stepRuleBy t (Read r w) = marked t (Read r w) (readRuleBy (B .c) (B .shape) t r w)
+    stepRuleBy t (Write w a) = marked t (Write w a) (writeRuleBy (B .c) (B .shape) t w a)
+    stepRuleBy t (Relabel w o) = marked t (Relabel w o) (relabelRuleBy (B .c) (B .shape) t w o)
+    stepRuleBy t (Lower q) = lowerRuleBy (B .c) (B .shape) t q
+    stepRuleBy t (Start b) = marked t (Start b) (startRuleBy t (B .bound b))
+    stepRuleBy t (Exec w) = marked t (Exec w) (execRuleBy (B .c) (B .shape) t w)
 
     -- "P begins as the bound."; where this place is weakened, one below it
     abbrev pub freshBy : Label → State
@@ -205,7 +205,7 @@ module _ (weakened : String) where
     walkBy [] (passes t) = true
     walkBy (p ∷ ps) breaks = false
     walkBy (p ∷ ps) stuck = true
-    walkBy (p ∷ ps) (passes t) = walkBy ps (stepBy t p)
+    walkBy (p ∷ ps) (passes t) = walkBy ps (stepRuleBy t p)
 
 unfoldable pub every : {A : Type 0} → (A → Bool) → List A → Bool
 every f [] = true
@@ -220,7 +220,7 @@ acceptedBy weakened K =
 
 -- The rules with no place weakened are the rules: a step is typed alike, and what the verdict accepts, they accept. proofs/ByRules.antt proves it.
 pub record SameRules : Type 0 where
-  pub step-alike : (B : View) (t : State) (p : Step) → stepBy "" B t p ≡ step B t p
+  pub step-alike : (B : View) (t : State) (p : Step) → stepRuleBy "" B t p ≡ stepRule B t p
   pub book-accepted : (bytes : List ℕ) (shapes cells blocks steps : ℕ) → verdict bytes ≡ Accepted shapes cells blocks steps
       → acceptedBy "" (parse bytes) ≡ true
 

@@ -14,12 +14,12 @@ use Rattle.machine.specs.Histories.{sources}
 use Rattle.machine.specs.declared.Event.{Event}
 use Rattle.machine.specs.States.{State}
 use Rattle.machine.specs.Acts.{freshJob}
-use Rattle.events.specs.Bytes.{next, eventAt}
-use Rattle.acts.specs.declared.Cell.{Cell}
-use Rattle.acts.specs.declared.Job.{Job}
+use Rattle.events.specs.Bytes.{nextEvent, eventAt}
+use Rattle.acts.specs.declared.StoredCell.{StoredCell}
+use Rattle.acts.specs.declared.StoredJob.{StoredJob}
 use Rattle.acts.specs.declared.Stored.{Stored}
-use Rattle.acts.specs.declared.Effect.{Effect}
-use Rattle.acts.specs.declared.Effect.the-variants.{Blocked, Give, Lower, Store, Create, Launch}
+use Rattle.acts.specs.declared.Act.{Act}
+use Rattle.acts.specs.declared.Act.the-variants.{Blocked, Give, Lower, Store, Create, Launch}
 use Rattle.acts.specs.Views.{jobOf, nearby, effectOf, answerOf, clamped}
 use Rattle.outsiders.specs.Outside.{such, aimedAt, outside}
 use Rattle.interpreter.proofs.Nearby.{Allowed, store-inside, create-room, launch-room}
@@ -32,11 +32,11 @@ use Rattle.interpreter.proofs.Starts.{placed-fresh}
 use Rattle.interpreter.proofs.Playing.{Playing, allowed-at, answering, blocks-count, further, known}
 
 -- the loop's variables, the offset p past the event e, the cell k that it reaches and its entry q of the table
-pub record Acting (b : List ℕ) (c : Label) (shapes offsets starts list room-cells room-jobs before now : List ℕ) (cells : List Cell) (n : ℕ)
-    (jobs : List Job) (m o at p : ℕ) (e : Event) (f : Bool) (k q : ℕ) : Type 0 where
+pub record Acting (b : List ℕ) (c : Label) (shapes offsets starts list room-cells room-jobs before now : List ℕ) (cells : List StoredCell) (n : ℕ)
+    (jobs : List StoredJob) (m o at p : ℕ) (e : Event) (f : Bool) (k q : ℕ) : Type 0 where
   pub w : Playing b c shapes offsets starts list room-cells room-jobs before now cells n jobs m o at
   pub h : o < length list
-  pub ep : p ≡ next list o
+  pub ep : p ≡ nextEvent list o
   pub here : getD list o 0 ≡ 80 → ⊥
   pub ee : e ≡ eventAt list o
   pub ef : f ≡ such c (shapeIn shapes) (length starts) n e
@@ -56,9 +56,9 @@ pub record SomeAct : Type 0 where
   pub room-jobs : List ℕ
   pub before : List ℕ
   pub now : List ℕ
-  pub cells : List Cell
+  pub cells : List StoredCell
   pub n : ℕ
-  pub jobs : List Job
+  pub jobs : List StoredJob
   pub m : ℕ
   pub o : ℕ
   pub at : ℕ
@@ -69,7 +69,7 @@ pub record SomeAct : Type 0 where
   pub q : ℕ
   pub known : Acting b c shapes offsets starts list room-cells room-jobs before now cells n jobs m o at p e f k q
 
-module _ {b : List ℕ} {c : Label} {shapes offsets starts list room-cells room-jobs before now : List ℕ} {cells : List Cell} {n : ℕ} {jobs : List Job}
+module _ {b : List ℕ} {c : Label} {shapes offsets starts list room-cells room-jobs before now : List ℕ} {cells : List StoredCell} {n : ℕ} {jobs : List StoredJob}
     {m o at p : ℕ} {e : Event} {f : Bool} {k q : ℕ}
     (act : Acting b c shapes offsets starts list room-cells room-jobs before now cells n jobs m o at p e f k q) where
   abbrev state : State Label
@@ -79,16 +79,16 @@ module _ {b : List ℕ} {c : Label} {shapes offsets starts list room-cells room-
   holds = act .w .going .holds
 
   -- the cell there, what it does, x, and its answer, a
-  module _ (dc cell : Cell) (ec : cell ≡ getD cells q dc) (x : Effect)
+  module _ (dc cell : StoredCell) (ec : cell ≡ getD cells q dc) (x : Act)
       (ex : effectOf (aimedAt e) x ≡ outside (nearby (record { cell = cell; cells = n; jobs = m })) e) (a : ℕ) (ea : a ≡ answerOf x) where
     -- behind the event, with these tables
-    abbrev Onward : List Cell → ℕ → List Job → ℕ → Type 0
+    abbrev Onward : List StoredCell → ℕ → List StoredJob → ℕ → Type 0
     Onward cells′ n′ jobs′ m′ = Playing b c shapes offsets starts list room-cells room-jobs before (set now at a) cells′ n′ jobs′ m′ p (at + 1)
 
     sight : cell ≡ getD cells (clamped (aimedAt e)) dc
     sight = ec ∙ ap (λ q. getD cells q dc) ((act .eq) ∙ ap clamped (act .ek))
 
-    acted : (cells′ : List Cell) (n′ : ℕ) (jobs′ : List Job) (m′ : ℕ) → n′ ≤ 64
+    acted : (cells′ : List StoredCell) (n′ : ℕ) (jobs′ : List StoredJob) (m′ : ℕ) → n′ ≤ 64
         → Holds b (stateOf state state k x) cells′ n′ jobs′ m′ → Onward cells′ n′ jobs′ m′
     acted cells′ n′ jobs′ m′ l v =
         further (act .w) (act .h) e (act .ee) p (act .ep) a (stateOf state state k x)
@@ -114,7 +114,7 @@ module _ {b : List ℕ} {c : Label} {shapes offsets starts list room-cells room-
     unfolding stateOf
     acting-lower l s d = acted cells n jobs m (act .w .cells-fit) (rw d holds)
 
-    pub acting-store : (z : Cell) → x ≡ Store z → Onward (set cells q z) n jobs m
+    pub acting-store : (z : StoredCell) → x ≡ Store z → Onward (set cells q z) n jobs m
     unfolding stateOf effectOf
     acting-store z d =
         let u = store-inside state (rw d at allowed) in
@@ -122,7 +122,7 @@ module _ {b : List ℕ} {c : Label} {shapes offsets starts list room-cells room-
         acted (set cells q z) n jobs m (act .w .cells-fit)
         (rw d (holds-entry cells z q k qk (holds-store holds z k)))
 
-    module _ (z : ℕ) (y : Cell) (d : x ≡ Create z y) where
+    module _ (z : ℕ) (y : StoredCell) (d : x ≡ Create z y) where
       pub acting-room : n < 64
       unfolding effectOf
       acting-room = let u = create-room state (rw d at allowed) in omega (arith, cells-in-use holds)
@@ -138,7 +138,7 @@ module _ {b : List ℕ} {c : Label} {shapes offsets starts list room-cells room-
       unfolding effectOf
       acting-free = let u = launch-room state (rw d at allowed) in omega (arith, jobs-in-use holds)
 
-      pub acting-launch : (start : ℕ) (child : Job) → start ≡ startIn starts z (length b)
+      pub acting-launch : (start : ℕ) (child : StoredJob) → start ≡ startIn starts z (length b)
           → (jobOf child ≡ freshJob sources z l s) × (child .at ≡ start) × (child .position ≡ 0) × (child .block ≡ z) → Onward cells n (set jobs m child) (m + 1)
       unfolding stateOf
       acting-launch start child st ch =

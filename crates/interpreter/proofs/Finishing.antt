@@ -19,8 +19,8 @@ use Rattle.machine.specs.Images.{cellImage, jobImage, stateImage}
 use Rattle.machine.specs.Records.{cellRecord, jobRecord}
 use Rattle.machine.proofs.Sources.{source-law}
 use Rattle.events.specs.Bytes.{eventsIn}
-use Rattle.acts.specs.declared.Cell.{Cell}
-use Rattle.acts.specs.declared.Job.{Job}
+use Rattle.acts.specs.declared.StoredCell.{StoredCell}
+use Rattle.acts.specs.declared.StoredJob.{StoredJob}
 use Rattle.acts.specs.Views.{cellOf, jobOf}
 use Rattle.tables.specs.Bytes.{cellTable, jobTable, savedCells, savedJobs}
 use Rattle.interpreter.specs.Loop.{opening}
@@ -30,8 +30,8 @@ use Rattle.interpreter.proofs.Going.{Played}
 use Rattle.interpreter.proofs.Records.{saved-cells, saved-jobs}
 
 -- the memory after a run that is not refused; the table of shapes is the book's
-module _ (b shapes list cells jobs before : List ℕ) (shapes-are : (i : ℕ) → shapeIn shapes i ≡ getD (parse b .shapes) i noShape) (held : List Cell) (n : ℕ)
-    (begun : List Job) (m : ℕ) (after : List ℕ) (w : Played b list before after held n begun m) where
+module _ (b shapes list cells jobs before : List ℕ) (shapes-are : (i : ℕ) → shapeIn shapes i ≡ getD (parse b .shapes) i noShape) (held : List StoredCell) (n : ℕ)
+    (begun : List StoredJob) (m : ℕ) (after : List ℕ) (w : Played b list before after held n begun m) where
   images : stateImage source (finalState b list) ≡ stateAfter sources tableSize (parse b) (opening b) (eventsIn list)
   images = source-law tableSize (parse b) .after-image (launchLabel (parse b)) (eventsIn list)
 

@@ -15,10 +15,10 @@ use Rattle.machine.specs.declared.Event.{Event}
 use Rattle.machine.specs.Histories.{sources}
 use Rattle.machine.specs.States.{State}
 use Rattle.machine.specs.Events.{tableSize, Outcome, outcomeOf, stateAfter, answers}
-use Rattle.events.specs.Bytes.{next, eventAt, eventsFrom, eventsIn}
+use Rattle.events.specs.Bytes.{nextEvent, eventAt, eventsFrom, eventsIn}
 use Rattle.events.proofs.Walks.{Whole, walk, events-end}
-use Rattle.acts.specs.declared.Cell.{Cell}
-use Rattle.acts.specs.declared.Job.{Job}
+use Rattle.acts.specs.declared.StoredCell.{StoredCell}
+use Rattle.acts.specs.declared.StoredJob.{StoredJob}
 use Rattle.interpreter.specs.Loop.{Holds, opening}
 
 one-longer : (xs : List ℕ) (a : ℕ) → length (xs ++ a ∷ []) ≡ length xs + 1
@@ -36,7 +36,7 @@ answer-put said before at a e h =
     ∙ sym (append-assoc said (a ∷ []) (drop (suc (length said)) before)))
 
 -- of the book b and the list, with the answers as they were before
-pub record Going (b list before answers-now : List ℕ) (cells : List Cell) (n : ℕ) (jobs : List Job) (m at o : ℕ) : Type 0 where
+pub record Going (b list before answers-now : List ℕ) (cells : List StoredCell) (n : ℕ) (jobs : List StoredJob) (m at o : ℕ) : Type 0 where
   pub state : State Label
   pub holds : Holds b state cells n jobs m
   pub rest : stateAfter sources tableSize (parse b) state (eventsFrom list o) ≡ stateAfter sources tableSize (parse b) (opening b) (eventsIn list)
@@ -48,30 +48,30 @@ pub record Going (b list before answers-now : List ℕ) (cells : List Cell) (n :
   pub left : at + length (eventsFrom list o) ≡ length (eventsIn list)
 
 -- the answers are the machine's, then what stood there; the arrays hold the machine's state
-pub record Played (b list before after : List ℕ) (cells : List Cell) (n : ℕ) (jobs : List Job) (m : ℕ) : Type 0 where
+pub record Played (b list before after : List ℕ) (cells : List StoredCell) (n : ℕ) (jobs : List StoredJob) (m : ℕ) : Type 0 where
   pub answered : after ≡ answers sources tableSize (parse b) (opening b) (eventsIn list) ++ drop (length (eventsIn list)) before
   pub holds : Holds b (stateAfter sources tableSize (parse b) (opening b) (eventsIn list)) cells n jobs m
 
-pub going-start : (b list before : List ℕ) (cells : List Cell) (n : ℕ) (jobs : List Job) (m : ℕ) → Whole list 0 → Holds b (opening b) cells n jobs m
+pub going-start : (b list before : List ℕ) (cells : List StoredCell) (n : ℕ) (jobs : List StoredJob) (m : ℕ) → Whole list 0 → Holds b (opening b) cells n jobs m
     → Going b list before before cells n jobs m 0 0
 going-start b list before cells n jobs m w h =
     record { state = opening b; holds = h; rest = refl; said = []; said-long = refl; all = refl; kept = refl; whole = w; left = omega arith }
 
-module _ (b list before answers-now : List ℕ) (cells : List Cell) (n : ℕ) (jobs : List Job) (m at o : ℕ)
+module _ (b list before answers-now : List ℕ) (cells : List StoredCell) (n : ℕ) (jobs : List StoredJob) (m at o : ℕ)
     (g : Going b list before answers-now cells n jobs m at o) where
   module _ (h : o < length list) (room : length (eventsIn list) ≤ length before) where
-    events-are : eventsFrom list o ≡ eventAt list o ∷ eventsFrom list (next list o)
+    events-are : eventsFrom list o ≡ eventAt list o ∷ eventsFrom list (nextEvent list o)
     events-are = walk list o (g .whole) h .events
 
     pub answer-fits : at < length before
     answer-fits = let e = ap length events-are in omega (arith, g .left, room)
 
-    module _ (e : Event) (ee : e ≡ eventAt list o) (p : ℕ) (ep : p ≡ next list o) (a : ℕ) (t : State Label)
+    module _ (e : Event) (ee : e ≡ eventAt list o) (p : ℕ) (ep : p ≡ nextEvent list o) (a : ℕ) (t : State Label)
         (lands : outcomeOf sources tableSize (parse b) (g .state) e ≡ record { answer = a; state = t }) where
       here : eventsFrom list o ≡ e ∷ eventsFrom list p
       here = events-are ∙ rw (ee, ep) refl
 
-      pub going-turn : (cells′ : List Cell) (n′ : ℕ) (jobs′ : List Job) (m′ : ℕ)
+      pub going-turn : (cells′ : List StoredCell) (n′ : ℕ) (jobs′ : List StoredJob) (m′ : ℕ)
           → Holds b t cells′ n′ jobs′ m′
           → Going b list before (set answers-now at a) cells′ n′ jobs′ m′ (at + 1) p
       unfolding stateAfter answers

@@ -15,8 +15,8 @@ use Rattle.machine.specs.Histories.{sources}
 use Rattle.machine.specs.States.{State}
 use Rattle.machine.specs.States as States
 use Rattle.machine.specs.Acts.{freshJob}
-use Rattle.acts.specs.declared.Cell.{Cell}
-use Rattle.acts.specs.declared.Job.{Job}
+use Rattle.acts.specs.declared.StoredCell.{StoredCell}
+use Rattle.acts.specs.declared.StoredJob.{StoredJob}
 use Rattle.acts.specs.Views.{cellOf, jobOf}
 use Rattle.interpreter.specs.Loop.{Placed, Holds}
 use Rattle.interpreter.proofs.Arrays.{front-set, front-push, other-stays}
@@ -31,8 +31,8 @@ behind m k h n = go (m - k) refl
     go (suc i) e = omega arith
 
 -- one job is written
-placed-set : (b : List ℕ) (jobs : List Job) (m i : ℕ) (j : Job) → i < length jobs → Placed b j
-    → ((k : ℕ) (d : Job) → k < m → (i ≡ k → ⊥) → Placed b (getD jobs k d)) → (k : ℕ) (d : Job) → k < m → Placed b (getD (set jobs i j) k d)
+placed-set : (b : List ℕ) (jobs : List StoredJob) (m i : ℕ) (j : StoredJob) → i < length jobs → Placed b j
+    → ((k : ℕ) (d : StoredJob) → k < m → (i ≡ k → ⊥) → Placed b (getD jobs k d)) → (k : ℕ) (d : StoredJob) → k < m → Placed b (getD (set jobs i j) k d)
 placed-set b jobs m i j h p f k d r = go (eqb i k) refl
   where
     go : (t : Bool) → eqb i k ≡ t → Placed b (getD (set jobs i j) k d)
@@ -40,12 +40,12 @@ placed-set b jobs m i j h p f k d r = go (eqb i k) refl
     go false e = rw (other-stays jobs i k j d (eqb-false i k e)) (f k d r (eqb-false i k e))
 
 -- the entry that is written, by another name
-pub holds-entry : {b : List ℕ} {s : State Label} {n : ℕ} {jobs : List Job} {m : ℕ} (cells : List Cell) (c : Cell) (q k : ℕ) → q ≡ k
+pub holds-entry : {b : List ℕ} {s : State Label} {n : ℕ} {jobs : List StoredJob} {m : ℕ} (cells : List StoredCell) (c : StoredCell) (q k : ℕ) → q ≡ k
     → Holds b s (set cells k c) n jobs m → Holds b s (set cells q c) n jobs m
 holds-entry cells c q k e h = rw e h
 
-module _ {b : List ℕ} {s : State Label} {cells : List Cell} {n : ℕ} {jobs : List Job} {m : ℕ} (h : Holds b s cells n jobs m) where
-  pub holds-job : (i : ℕ) (j : Job) → i < m → Placed b j → Holds b (withJob s i j) cells n (set jobs i j) m
+module _ {b : List ℕ} {s : State Label} {cells : List StoredCell} {n : ℕ} {jobs : List StoredJob} {m : ℕ} (h : Holds b s cells n jobs m) where
+  pub holds-job : (i : ℕ) (j : StoredJob) → i < m → Placed b j → Holds b (withJob s i j) cells n (set jobs i j) m
   holds-job i j r p =
       record {
         cells-are = h .cells-are;
@@ -58,7 +58,7 @@ module _ {b : List ℕ} {s : State Label} {cells : List Cell} {n : ℕ} {jobs : 
         placed = placed-set b jobs m i j (omega (arith, h .jobs-long, h .jobs-fit)) p (λ k d r q. h .placed k d r);
       }
 
-  module _ (c : Cell) where
+  module _ (c : StoredCell) where
     pub holds-store : (k : ℕ) → Holds b (record { cells = set (s .cells) k (cellOf c); jobs = s .jobs }) (set cells k c) n jobs m
     holds-store k =
         record {
@@ -89,7 +89,7 @@ module _ {b : List ℕ} {s : State Label} {cells : List Cell} {n : ℕ} {jobs : 
           placed = h .placed;
         }
 
-  pub holds-launch : (x : ℕ) (l g : Label) (child : Job) → m < 64 → jobOf child ≡ freshJob sources x l g → Placed b child
+  pub holds-launch : (x : ℕ) (l g : Label) (child : StoredJob) → m < 64 → jobOf child ≡ freshJob sources x l g → Placed b child
       → Holds b (record { cells = s .cells; jobs = s .jobs ++ (freshJob sources x l g ∷ []) }) cells n (set jobs m child) (m + 1)
   holds-launch x l g child q e pc =
       let u : m + 1 ≡ suc m = omega arith in

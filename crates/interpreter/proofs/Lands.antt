@@ -30,10 +30,10 @@ use Rattle.machine.specs.States.{State}
 use Rattle.machine.specs.States as States
 use Rattle.machine.specs.Acts.{freshJob}
 use Rattle.machine.specs.Events.{tableSize, finished, noSuch, blockOf, Outcome, unchanged, landed, turnLanded, outcomeOf}
-use Rattle.acts.specs.declared.Cell.{Cell}
-use Rattle.acts.specs.declared.Job.{Job}
-use Rattle.acts.specs.declared.Effect.{Effect}
-use Rattle.acts.specs.declared.Effect.the-variants.{Blocked, Give, Lower, Store, Create, Launch}
+use Rattle.acts.specs.declared.StoredCell.{StoredCell}
+use Rattle.acts.specs.declared.StoredJob.{StoredJob}
+use Rattle.acts.specs.declared.Act.{Act}
+use Rattle.acts.specs.declared.Act.the-variants.{Blocked, Give, Lower, Store, Create, Launch}
 use Rattle.acts.specs.Views.{cellOf, jobOf, nearby, effectOf, jobAfter, answerOf, clamped}
 use Rattle.turns.specs.Turns.{reachedBy, reachedIn, Takes}
 use Rattle.outsiders.specs.Outside.{aimedAt, outside}
@@ -43,7 +43,7 @@ use Rattle.interpreter.specs.Loop.{Placed, Holds}
 use Rattle.interpreter.proofs.Arrays.{front-get, front-long, left-some, left-none, left-more}
 
 -- s is the state before, t the same with the actor's step done, and the effect is on cell k
-unfoldable pub stateOf : State Label → State Label → ℕ → Effect → State Label
+unfoldable pub stateOf : State Label → State Label → ℕ → Act → State Label
 stateOf s t k Blocked = s
 stateOf s t k (Give r v) = t
 stateOf s t k (Lower q h) = t
@@ -51,10 +51,10 @@ stateOf s t k (Store c) = record { cells = set (t .cells) k (cellOf c); jobs = t
 stateOf s t k (Create r c) = record { cells = t .cells ++ (cellOf c ∷ []); jobs = t .jobs }
 stateOf s t k (Launch b l h) = record { cells = t .cells; jobs = t .jobs ++ (freshJob sources b l h ∷ []) }
 
-abbrev pub afterwards : State Label → State Label → ℕ → Effect → Outcome Label
+abbrev pub afterwards : State Label → State Label → ℕ → Act → Outcome Label
 afterwards s t k x = record { answer = answerOf x; state = stateOf s t k x }
 
-from-landed : (s t : State Label) (k : ℕ) (x : Effect) → landed s t (effectOf k x) ≡ afterwards s t k x
+from-landed : (s t : State Label) (k : ℕ) (x : Act) → landed s t (effectOf k x) ≡ afterwards s t k x
 unfolding landed effectOf answerOf stateOf
 from-landed s t k Blocked = refl
 from-landed s t k (Give r v) = refl
@@ -64,7 +64,7 @@ from-landed s t k (Create r c) = refl
 from-landed s t k (Launch b l h) = refl
 
 -- the state with job i as it now stands
-abbrev pub withJob : State Label → ℕ → Job → State Label
+abbrev pub withJob : State Label → ℕ → StoredJob → State Label
 withJob s i t = record { cells = s .cells; jobs = set (s .jobs) i (jobOf t) }
 
 -- a step is found inside
@@ -77,7 +77,7 @@ found-inside b o p n e = go (ltb o (length b)) refl
     go false q = let x : NoStep ≡ StepThere p n = simp q at e in let z : _≡_ {A = ℕ} 0 1 = cc in absurd (omega arith)
 
 -- the steps that are left of a job's block begin where its offset says
-module _ (b : List ℕ) (j : Job) (here : Placed b j) where
+module _ (b : List ℕ) (j : StoredJob) (here : Placed b j) where
   none-left : stepFound b (j .at) ≡ NoStep → stepsFrom b (j .at) ≡ []
   none-left e = go (ltb (j .at) (length b)) refl
     where
@@ -111,7 +111,7 @@ module _ (b : List ℕ) (j : Job) (here : Placed b j) where
     next-inside = let w = walk b (j .at) (here .whole) inside in rw (stood .on) (w .inside)
 
     -- the job after the step
-    pub placed-next : (t : Job) → t .block ≡ j .block → t .position ≡ suc (j .position) → t .at ≡ n → Placed b t
+    pub placed-next : (t : StoredJob) → t .block ≡ j .block → t .position ≡ suc (j .position) → t .at ≡ n → Placed b t
     placed-next t eb ep ea =
         let w = walk b (j .at) (here .whole) inside in
         let q : t .at ≡ next b (j .at) = ea ∙ stood .on in
@@ -123,7 +123,7 @@ module _ (b : List ℕ) (j : Job) (here : Placed b j) where
         }
 
 -- the arrays hold the state s; c is the cell that is looked up for k
-module _ {b : List ℕ} {s : State Label} {cells : List Cell} {n : ℕ} {jobs : List Job} {m : ℕ} (h : Holds b s cells n jobs m) where
+module _ {b : List ℕ} {s : State Label} {cells : List StoredCell} {n : ℕ} {jobs : List StoredJob} {m : ℕ} (h : Holds b s cells n jobs m) where
   pub cells-in-use : length (s .cells) ≡ n
   cells-in-use = ap length (sym (h .cells-are)) ∙ front-long cellOf cells n (omega (arith, h .cells-long, h .cells-fit))
 
@@ -133,13 +133,13 @@ module _ {b : List ℕ} {s : State Label} {cells : List Cell} {n : ℕ} {jobs : 
   pub in-table : (k : ℕ) → k < n → clamped k ≡ k
   in-table k r = simp (lt-ltb k 64 (omega (arith, h .cells-fit)))
 
-  reached : (k : ℕ) (d c : Cell) → c ≡ getD cells (clamped k) d → Reached s (record { cell = c; cells = n; jobs = m }) cells-in-use jobs-in-use k
+  reached : (k : ℕ) (d c : StoredCell) → c ≡ getD cells (clamped k) d → Reached s (record { cell = c; cells = n; jobs = m }) cells-in-use jobs-in-use k
   reached k d c e r =
       sym (ap (λ (l : List (States.Cell Label)). getElem? l k) (h .cells-are))
       ∙ front-get cellOf cells n k d r (omega (arith, h .cells-long, h .cells-fit))
-      ∙ ap (λ (c : Cell). some (cellOf c)) (ap (λ i. getD cells i d) (sym (in-table k r)) ∙ sym e)
+      ∙ ap (λ (c : StoredCell). some (cellOf c)) (ap (λ i. getD cells i d) (sym (in-table k r)) ∙ sym e)
 
-  job-there : (i : ℕ) (d : Job) → i < m → getElem? (s .jobs) i ≡ some (jobOf (getD jobs i d))
+  job-there : (i : ℕ) (d : StoredJob) → i < m → getElem? (s .jobs) i ≡ some (jobOf (getD jobs i d))
   job-there i d r =
       sym (ap (λ (l : List (States.Job Label)). getElem? l i) (h .jobs-are))
       ∙ front-get jobOf jobs m i d r (omega (arith, h .jobs-long, h .jobs-fit))
@@ -149,7 +149,7 @@ module _ {b : List ℕ} {s : State Label} {cells : List Cell} {n : ℕ} {jobs : 
   step-past i r = simp (at-none (s .jobs) i (omega (arith, jobs-in-use, r)))
 
   -- the step of job i, which is j
-  module _ (i : ℕ) (d : Job) (r : i < m) where
+  module _ (i : ℕ) (d : StoredJob) (r : i < m) where
     placed : Placed b (getD jobs i d)
     placed = h .placed i d r
 
@@ -157,8 +157,8 @@ module _ {b : List ℕ} {s : State Label} {cells : List Cell} {n : ℕ} {jobs : 
     unfolding outcomeOf onSome
     step-none e = simp (job-there i d r, no-step b (getD jobs i d) placed e)
 
-    module _ (p : Step) (o : ℕ) (e : stepFound b (getD jobs i d .at) ≡ StepThere p o) (dc c : Cell)
-        (ec : c ≡ getD cells (clamped (reachedIn p (getD jobs i d .source) (getD jobs i d .registers))) dc) (x : Effect) (f : ℕ)
+    module _ (p : Step) (o : ℕ) (e : stepFound b (getD jobs i d .at) ≡ StepThere p o) (dc c : StoredCell)
+        (ec : c ≡ getD cells (clamped (reachedIn p (getD jobs i d .source) (getD jobs i d .registers))) dc) (x : Act) (f : ℕ)
         (t : Takes f (nearby (record { cell = c; cells = n; jobs = m })) p (getD jobs i d .label) (getD jobs i d .source) (getD jobs i d .registers) x) where
       same : reachedBy p (jobOf (getD jobs i d)) ≡ reachedIn p (getD jobs i d .source) (getD jobs i d .registers)
       same = reached-same p (getD jobs i d .source) (getD jobs i d .registers) (getD jobs i d .label) (getD jobs i d .block) (getD jobs i d .position)
@@ -167,7 +167,7 @@ module _ {b : List ℕ} {s : State Label} {cells : List Cell} {n : ℕ} {jobs : 
       seen = rw same (reached _ dc c ec)
 
       -- g is the job as the code puts it back
-      pub step-done : (g : Job) → jobOf g ≡ jobAfter s (jobOf (getD jobs i d)) x
+      pub step-done : (g : StoredJob) → jobOf g ≡ jobAfter s (jobOf (getD jobs i d)) x
           → outcomeOf sources tableSize (parse b) s (StepOf i)
           ≡ afterwards s (withJob s i g) (reachedIn p (getD jobs i d .source) (getD jobs i d .registers)) x
       unfolding outcomeOf onSome turnLanded
@@ -186,11 +186,11 @@ module _ {b : List ℕ} {s : State Label} {cells : List Cell} {n : ℕ} {jobs : 
           (getD jobs i d .block) (getD jobs i d .position) x f seen t)
 
       -- a job that has moved on
-      pub step-placed : (g : Job) → g .at ≡ o → jobOf g .block ≡ getD jobs i d .block → jobOf g .position ≡ suc (getD jobs i d .position) → Placed b g
+      pub step-placed : (g : StoredJob) → g .at ≡ o → jobOf g .block ≡ getD jobs i d .block → jobOf g .position ≡ suc (getD jobs i d .position) → Placed b g
       step-placed g ea eb ep = placed-next b (getD jobs i d) placed p o e g eb ep ea
 
   -- an outsider's act, which is such
-  module _ (e : Event) (dc c : Cell) (ec : c ≡ getD cells (clamped (aimedAt e)) dc) (x : Effect)
+  module _ (e : Event) (dc c : StoredCell) (ec : c ≡ getD cells (clamped (aimedAt e)) dc) (x : Act)
       (t : effectOf (aimedAt e) x ≡ outside (nearby (record { cell = c; cells = n; jobs = m })) e) where
     act-is : outside s e ≡ effectOf (aimedAt e) x
     act-is =

@@ -17,15 +17,15 @@ use Rattle.machine.specs.States as States
 use Rattle.machine.specs.Events.{tableSize, launchLabel, stateAfter}
 use Rattle.machine.proofs.Named.{Any, JobNamed, state-after-named, job-few}
 use Rattle.events.specs.Bytes.{eventsIn}
-use Rattle.acts.specs.declared.Cell.{Cell}
-use Rattle.acts.specs.declared.Job.{Job}
+use Rattle.acts.specs.declared.StoredCell.{StoredCell}
+use Rattle.acts.specs.declared.StoredJob.{StoredJob}
 use Rattle.acts.specs.Views.{jobOf}
 use Rattle.tables.specs.Asked.{NarrowJobs}
 use Rattle.interpreter.specs.Loop.{opening}
 use Rattle.interpreter.proofs.Arrays.{front-get}
 use Rattle.interpreter.proofs.Going.{Played}
 
-pub played-narrow : (b list before after : List ℕ) (cells : List Cell) (n : ℕ) (jobs : List Job) (m : ℕ) → unreadable b ≡ Passed
+pub played-narrow : (b list before after : List ℕ) (cells : List StoredCell) (n : ℕ) (jobs : List StoredJob) (m : ℕ) → unreadable b ≡ Passed
     → Played b list before after cells n jobs m → NarrowJobs jobs m
 played-narrow b list before after cells n jobs m e w =
     let ok = sound b e in

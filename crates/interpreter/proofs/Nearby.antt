@@ -23,16 +23,16 @@ use Rattle.machine.specs.declared.Event.{Event}
 use Rattle.machine.specs.declared.Event.the-variants.{StepOf, WriteBy, RelabelBy, NewBy, ExecBy, StartBy}
 use Rattle.machine.specs.Histories.{sources}
 use Rattle.machine.specs.States.{Traced, Cell, Job, State}
-use Rattle.machine.specs.Acts.{Effect, blocked, keep, store, create, launch, isFree, freshJob, writing, relabelling, making, starting, executing}
-use Rattle.machine.specs.Steps.{Turn, register, through, reading, adding, lowering, turnOf}
+use Rattle.machine.specs.Acts.{Effect, blocked, keep, store, create, launch, isFree, freshJob, writeAct, relabelAct, newAct, startAct, execAct}
+use Rattle.machine.specs.Steps.{Turn, register, through, readStep, addStep, lowerStep, turnOf}
 use Rattle.machine.specs.Events.{tableSize, landed, turnLanded}
 use Rattle.machine.proofs.Cases.{given-both, some-both, plain-both, cell-both, code-both}
 use Rattle.book.proofs.Lists.{at-none}
 use Rattle.acts.specs.declared.Near.{Near}
 use Rattle.acts.specs.declared.Stored.{Stored}
-use Rattle.acts.specs.declared.Effect as Acts
-use Rattle.acts.specs.declared.Effect.the-variants.{Blocked, Give, Store, Create, Launch}
-use Rattle.acts.specs.declared.Effect.the-variants as Effects
+use Rattle.acts.specs.declared.Act as Acts
+use Rattle.acts.specs.declared.Act.the-variants.{Blocked, Give, Store, Create, Launch}
+use Rattle.acts.specs.declared.Act.the-variants as Effects
 use Rattle.acts.specs.Views.{cellOf, actor, nearby, effectOf, jobAfter, turnTaken, kept}
 use Rattle.turns.specs.Turns.{numberIn, targetBy, reachedBy, Takes}
 use Rattle.outsiders.specs.Outside.{aimedAt, outside}
@@ -60,24 +60,24 @@ module _ (s : State Label) (y : Near) (cells-are : length (s .cells) ≡ y .cell
   jobs-full = ap (λ n. ltb n 64) (jobs-are ∙ sym (length-replicate (y .jobs) (freshJob sources 0 (label 0) (label 0))))
 
   module _ (l h : Label) where
-    write-nearby : (k : ℕ) (v : Traced Label) → Reached k → writing sources s l h k v ≡ writing sources (nearby y) l h k v
-    unfolding writing
+    write-nearby : (k : ℕ) (v : Traced Label) → Reached k → writeAct sources s l h k v ≡ writeAct sources (nearby y) l h k v
+    unfolding writeAct
     write-nearby k v r = rw (looked k r) refl
 
-    relabel-nearby : (k : ℕ) (o : Label) → Reached k → relabelling sources s l h k o ≡ relabelling sources (nearby y) l h k o
-    unfolding relabelling
+    relabel-nearby : (k : ℕ) (o : Label) → Reached k → relabelAct sources s l h k o ≡ relabelAct sources (nearby y) l h k o
+    unfolding relabelAct
     relabel-nearby k o r = rw (looked k r) refl
 
-    make-nearby : (i : ℕ) (v : Traced Label) → making sources tableSize s l h i v ≡ making sources tableSize (nearby y) l h i v
-    unfolding making
+    make-nearby : (i : ℕ) (v : Traced Label) → newAct sources tableSize s l h i v ≡ newAct sources tableSize (nearby y) l h i v
+    unfolding newAct
     make-nearby i v = rw cells-full refl
 
-    start-nearby : (b : ℕ) → starting sources tableSize s l h b ≡ starting sources tableSize (nearby y) l h b
-    unfolding starting
+    start-nearby : (b : ℕ) → startAct sources tableSize s l h b ≡ startAct sources tableSize (nearby y) l h b
+    unfolding startAct
     start-nearby b = rw jobs-full refl
 
-    exec-nearby : (k : ℕ) → Reached k → executing sources tableSize s l h k ≡ executing sources tableSize (nearby y) l h k
-    unfolding executing
+    exec-nearby : (k : ℕ) → Reached k → execAct sources tableSize s l h k ≡ execAct sources tableSize (nearby y) l h k
+    unfolding execAct
     exec-nearby k r = rw (looked k r, jobs-full) refl
 
   module _ (j : Job Label) where
@@ -93,11 +93,11 @@ module _ (s : State Label) (y : Near) (cells-are : length (s .cells) ≡ y .cell
             simp (e, q)
         go (CodeName b) e = simp e
 
-    read-nearby : (r w : ℕ) → Reached (numberIn j w) → reading sources s j r w ≡ reading sources (nearby y) j r w
-    unfolding reading onCell
+    read-nearby : (r w : ℕ) → Reached (numberIn j w) → readStep sources s j r w ≡ readStep sources (nearby y) j r w
+    unfolding readStep onCell
     read-nearby r w t = go (register sources j w .value) refl
       where
-        go : (v : Value) → register sources j w .value ≡ v → reading sources s j r w ≡ reading sources (nearby y) j r w
+        go : (v : Value) → register sources j w .value ≡ v → readStep sources s j r w ≡ readStep sources (nearby y) j r w
         go (Plain n) e = simp e
         go (CellName k) e =
             let q : getElem? (s .cells) k ≡ getElem? (nearby y .cells) k = rw e at (looked (numberIn j w) t) in
@@ -114,16 +114,16 @@ module _ (s : State Label) (y : Near) (cells-are : length (s .cells) ≡ y .cell
         rw (make-nearby (j .label) (j .history) i (register sources j a), cells-are, length-replicate (y .cells) (cellOf (y .cell))) refl
     turn-nearby (Read r w) t = read-nearby r w t
     turn-nearby (Write w a) t =
-        through-same w (λ k. writing sources s (j .label) (j .history) k (register sources j a))
-        (λ k. writing sources (nearby y) (j .label) (j .history) k (register sources j a))
+        through-same w (λ k. writeAct sources s (j .label) (j .history) k (register sources j a))
+        (λ k. writeAct sources (nearby y) (j .label) (j .history) k (register sources j a))
         (write-nearby (j .label) (j .history) (numberIn j w) (register sources j a)) t
     turn-nearby (Relabel w o) t =
-        through-same w (λ k. relabelling sources s (j .label) (j .history) k o) (λ k. relabelling sources (nearby y) (j .label) (j .history) k o)
+        through-same w (λ k. relabelAct sources s (j .label) (j .history) k o) (λ k. relabelAct sources (nearby y) (j .label) (j .history) k o)
         (relabel-nearby (j .label) (j .history) (numberIn j w) o) t
     turn-nearby (Lower q) t = refl
     turn-nearby (Start b) t = rw (start-nearby (j .label) (j .history) b) refl
     turn-nearby (Exec w) t =
-        through-same w (executing sources tableSize s (j .label) (j .history)) (executing sources tableSize (nearby y) (j .label) (j .history))
+        through-same w (execAct sources tableSize s (j .label) (j .history)) (execAct sources tableSize (nearby y) (j .label) (j .history))
         (exec-nearby (j .label) (j .history) (numberIn j w)) t
 
   pub outside-nearby : (e : Event) → Reached (aimedAt e) → outside s e ≡ outside (nearby y) e
@@ -162,24 +162,24 @@ module _ (s : State Label) where
     pub effect : Allowed (t .effect)
 
   module _ (l h : Label) where
-    write-allowed : (k : ℕ) (v : Traced Label) → Allowed (writing sources s l h k v)
-    unfolding writing
+    write-allowed : (k : ℕ) (v : Traced Label) → Allowed (writeAct sources s l h k v)
+    unfolding writeAct
     write-allowed k v = some-both Allowed blocked-fits (λ c ec. given-both Allowed blocked-fits (λ e. store-fits (there-inside (s .cells) k c ec)))
 
-    relabel-allowed : (k : ℕ) (o : Label) → Allowed (relabelling sources s l h k o)
-    unfolding relabelling
+    relabel-allowed : (k : ℕ) (o : Label) → Allowed (relabelAct sources s l h k o)
+    unfolding relabelAct
     relabel-allowed k o = some-both Allowed blocked-fits (λ c ec. given-both Allowed blocked-fits (λ e. store-fits (there-inside (s .cells) k c ec)))
 
-    make-allowed : (i : ℕ) (v : Traced Label) → Allowed (making sources tableSize s l h i v)
-    unfolding making
+    make-allowed : (i : ℕ) (v : Traced Label) → Allowed (newAct sources tableSize s l h i v)
+    unfolding newAct
     make-allowed i v = given-both Allowed blocked-fits (λ e. create-fits (ltb-true _ _ e))
 
-    start-allowed : (b : ℕ) → Allowed (starting sources tableSize s l h b)
-    unfolding starting
+    start-allowed : (b : ℕ) → Allowed (startAct sources tableSize s l h b)
+    unfolding startAct
     start-allowed b = given-both Allowed blocked-fits (λ e. launch-fits (ltb-true _ _ e))
 
-    exec-allowed : (k : ℕ) → Allowed (executing sources tableSize s l h k)
-    unfolding executing
+    exec-allowed : (k : ℕ) → Allowed (execAct sources tableSize s l h k)
+    unfolding execAct
     exec-allowed k =
         some-both Allowed blocked-fits
         (λ c ec. code-both Allowed blocked-fits (λ b eb. given-both Allowed blocked-fits (λ e. launch-fits (ltb-true _ _ e))))
@@ -195,7 +195,7 @@ module _ (s : State Label) where
     through-allowed w f g = cell-both TurnAllowed waits (λ k ek. record { effect = g k })
 
     pub turn-allowed : (p : Step) → TurnAllowed (turnOf sources tableSize s j p)
-    unfolding turnOf adding reading lowering
+    unfolding turnOf addStep readStep lowerStep
     turn-allowed (Put r n) = keeps
     turn-allowed (Name r k) = keeps
     turn-allowed (Code r b) = keeps
@@ -229,7 +229,7 @@ settled-lands s i j g (launch n) = refl
 
 -- x is what the code hands back for a step p of job j, which is job i of the state s; y is what it looked at
 module _ (s : State Label) (y : Near) (cells-are : length (s .cells) ≡ y .cells) (jobs-are : length (s .jobs) ≡ y .jobs) where
-  same-after : (j : Job Label) (x : Acts.Effect) → jobAfter s j x ≡ jobAfter (nearby y) j x
+  same-after : (j : Job Label) (x : Acts.Act) → jobAfter s j x ≡ jobAfter (nearby y) j x
   unfolding jobAfter
   same-after j Blocked = refl
   same-after j (Give r v) = refl
@@ -238,7 +238,7 @@ module _ (s : State Label) (y : Near) (cells-are : length (s .cells) ≡ y .cell
   same-after j (Create r c) = rw (cells-are, length-replicate (y .cells) (cellOf (y .cell))) refl
   same-after j (Launch b l h) = refl
 
-  pub step-lands : (p : Step) (l h : Label) (rs : List Stored) (b n i : ℕ) (x : Acts.Effect) (a : ℕ)
+  pub step-lands : (p : Step) (l h : Label) (rs : List Stored) (b n i : ℕ) (x : Acts.Act) (a : ℕ)
       → Reached s y cells-are jobs-are (reachedBy p (actor l h rs b n)) → Takes a (nearby y) p l h rs x
       → turnLanded s i (turnTaken s (actor l h rs b n) (reachedBy p (actor l h rs b n)) x)
       ≡ turnLanded s i (turnOf sources tableSize s (actor l h rs b n) p)
@@ -248,7 +248,7 @@ module _ (s : State Label) (y : Near) (cells-are : length (s .cells) ≡ y .cell
       ∙ settled-lands s i (actor l h rs b n) (turnOf sources tableSize (nearby y) (actor l h rs b n) p .job) (turnOf sources tableSize (nearby y) (actor l h rs b n) p .effect)
       ∙ ap (turnLanded s i) (sym (turn-nearby s y cells-are jobs-are (actor l h rs b n) p r))
 
-  pub step-allowed : (p : Step) (l h : Label) (rs : List Stored) (b n : ℕ) (x : Acts.Effect) (a : ℕ)
+  pub step-allowed : (p : Step) (l h : Label) (rs : List Stored) (b n : ℕ) (x : Acts.Act) (a : ℕ)
       → Reached s y cells-are jobs-are (reachedBy p (actor l h rs b n)) → Takes a (nearby y) p l h rs x
       → Allowed s (effectOf (reachedBy p (actor l h rs b n)) x)
   step-allowed p l h rs b n x a r t =

@@ -20,8 +20,8 @@ use Rattle.machine.specs.States as States
 use Rattle.machine.specs.Acts.{freshJob}
 use Rattle.machine.specs.Records.{kindOf, numberOf}
 use Rattle.machine.specs.Events.{declared}
-use Rattle.acts.specs.declared.Cell.{Cell}
-use Rattle.acts.specs.declared.Job.{Job}
+use Rattle.acts.specs.declared.StoredCell.{StoredCell}
+use Rattle.acts.specs.declared.StoredJob.{StoredJob}
 use Rattle.acts.specs.Views.{cellOf, jobOf}
 use Rattle.tables.specs.Opening.{startIn, openedCells}
 use Rattle.interpreter.specs.Loop.{Placed, Holds, opening, Ready}
@@ -50,7 +50,7 @@ module _ (b : List ℕ) (c : Label) (shapes offsets starts : List ℕ) (bound : 
   open-listed = (rw (y .offsets-are) (listed b (readable b (y .readable))), omega (arith, few))
 
   -- job 0 stands first, before 63 that are not in use
-  pub opened : (held : List Cell) (none j : Job) (start : ℕ) → length held ≡ 64 → take (length offsets) held ≡ openedCells b offsets
+  pub opened : (held : List StoredCell) (none j : StoredJob) (start : ℕ) → length held ≡ 64 → take (length offsets) held ≡ openedCells b offsets
       → start ≡ startIn starts 0 (length b) → jobOf j ≡ freshJob sources 0 bound bound → j .at ≡ start → j .position ≡ 0 → j .block ≡ 0
       → Holds b (opening b) held (length offsets) (set (replicate 64 none) 0 j) 1
   unfolding parse
@@ -66,6 +66,6 @@ module _ (b : List ℕ) (c : Label) (shapes offsets starts : List ℕ) (bound : 
         placed = only;
       }
     where
-      only : (i : ℕ) (d : Job) → i < 1 → Placed b (getD (set (replicate 64 none) 0 j) i d)
+      only : (i : ℕ) (d : StoredJob) → i < 1 → Placed b (getD (set (replicate 64 none) 0 j) i d)
       only zero d h = placed-fresh b (y .readable) starts (y .starts-are) j 0 eb ep (ea ∙ es)
       only (suc i) d h = absurd (omega arith)

@@ -25,12 +25,12 @@ use Rattle.machine.specs.declared.Event.the-variants.{StepOf}
 use Rattle.machine.specs.States.{State}
 use Rattle.machine.specs.Acts.{freshJob}
 use Rattle.machine.specs.Events.{tableSize, Outcome, outcomeOf}
-use Rattle.events.specs.Bytes.{next, eventAt}
+use Rattle.events.specs.Bytes.{nextEvent, eventAt}
 use Rattle.events.proofs.Scans.{next-step}
 use Rattle.events.proofs.Walks.{walk, passed-whole, passed-short}
-use Rattle.acts.specs.declared.Cell.{Cell}
-use Rattle.acts.specs.declared.Job.{Job}
-use Rattle.acts.specs.declared.Effect.{Effect}
+use Rattle.acts.specs.declared.StoredCell.{StoredCell}
+use Rattle.acts.specs.declared.StoredJob.{StoredJob}
+use Rattle.acts.specs.declared.Act.{Act}
 use Rattle.acts.specs.Views.{jobOf, effectOf}
 use Rattle.outsiders.specs.Outside.{such}
 use Rattle.interpreter.proofs.Nearby.{Allowed}
@@ -47,7 +47,7 @@ use Rattle.interpreter.proofs.Opened.{opened}
 use Rattle.interpreter.proofs.Finishing.{finish-is}
 
 -- of the memory lent for the tables only its length matters
-pub record Playing (b : List ℕ) (c : Label) (shapes offsets starts list room-cells room-jobs before now : List ℕ) (cells : List Cell) (n : ℕ) (jobs : List Job) (m o at : ℕ) : Type 0 where
+pub record Playing (b : List ℕ) (c : Label) (shapes offsets starts list room-cells room-jobs before now : List ℕ) (cells : List StoredCell) (n : ℕ) (jobs : List StoredJob) (m o at : ℕ) : Type 0 where
   pub bound : Label
   pub setting : Ready b c shapes offsets starts bound list room-cells room-jobs before
   pub going : Going b list before now cells n jobs m at o
@@ -58,7 +58,7 @@ pub record Playing (b : List ℕ) (c : Label) (shapes offsets starts list room-c
 
 pub playing-start : (b : List ℕ) (c : Label) (shapes offsets starts : List ℕ) (bound : Label) (list room-cells room-jobs before : List ℕ)
     → Ready b c shapes offsets starts bound list room-cells room-jobs before
-    → (cells : List Cell) (none j : Job) (start : ℕ) → length cells ≡ 64 → take (length offsets) cells ≡ openedCells b offsets
+    → (cells : List StoredCell) (none j : StoredJob) (start : ℕ) → length cells ≡ 64 → take (length offsets) cells ≡ openedCells b offsets
     → start ≡ startIn starts 0 (length b) → (jobOf j ≡ freshJob sources 0 bound bound) × (j .at ≡ start) × (j .position ≡ 0) × (j .block ≡ 0)
     → Playing b c shapes offsets starts list room-cells room-jobs before before cells (length offsets) (set (replicate 64 none) 0 j) 1 0 0
 playing-start b c shapes offsets starts bound list room-cells room-jobs before y cells none j start long e es f =
@@ -78,7 +78,7 @@ pub entry-fits : (i : ℕ) → i < 64 → Fits w64 (i * 80)
 entry-fits i h = fits-under w64 (i * 80) 5120 (omega arith) tt
 
 -- of the cell by another name
-pub allowed-at : (s : State Label) (x : Effect) (k l : ℕ) → k ≡ l → Allowed s (effectOf l x) → Allowed s (effectOf k x)
+pub allowed-at : (s : State Label) (x : Act) (k l : ℕ) → k ≡ l → Allowed s (effectOf l x) → Allowed s (effectOf k x)
 allowed-at s x k l e p = rw e p
 
 abbrev pub answering : ℕ → State Label → Outcome Label
@@ -88,11 +88,11 @@ pub blocks-count : (b starts : List ℕ) → starts ≡ map startAt (blocksOf b)
 unfolding parse
 blocks-count b starts e = ap length e ∙ length-map (blocksOf b) startAt ∙ sym (length-map (blocksOf b) (blockAt b))
 
-module _ {b : List ℕ} {c : Label} {shapes offsets starts list room-cells room-jobs before now : List ℕ} {cells : List Cell} {n : ℕ} {jobs : List Job}
+module _ {b : List ℕ} {c : Label} {shapes offsets starts list room-cells room-jobs before now : List ℕ} {cells : List StoredCell} {n : ℕ} {jobs : List StoredJob}
     {m o at : ℕ}
     (w : Playing b c shapes offsets starts list room-cells room-jobs before now cells n jobs m o at) where
   -- every job of the array is where the book says
-  pub playing-small : (i : ℕ) (d : Job) → i < m → getD jobs i d .position < 65535
+  pub playing-small : (i : ℕ) (d : StoredJob) → i < m → getD jobs i d .position < 65535
   playing-small i d h =
       let p = w .going .holds .placed i d h in
       let r = readable b (w .setting .readable) in
@@ -129,13 +129,13 @@ module _ {b : List ℕ} {c : Label} {shapes offsets starts list room-cells room-
     pub playing-fits : at < length now
     playing-fits = let f = answer-fits b list before now cells n jobs m at o (w .going) h (w .setting .lent .room) in omega (arith, w .long)
 
-    pub playing-falls : (p : ℕ) → p ≡ next list o → length list - p < length list - o
+    pub playing-falls : (p : ℕ) → p ≡ nextEvent list o → length list - p < length list - o
     playing-falls p ep = let k = walk list o (w .going .whole) h in omega (arith, ep, k .further, k .inside)
 
     -- the event e, the offset p past it, its answer a and the state t after it
-    pub further : (e : Event) → e ≡ eventAt list o → (p : ℕ) → p ≡ next list o → (a : ℕ) (t : State Label)
+    pub further : (e : Event) → e ≡ eventAt list o → (p : ℕ) → p ≡ nextEvent list o → (a : ℕ) (t : State Label)
         → outcomeOf sources tableSize (parse b) (w .going .state) e ≡ record { answer = a; state = t }
-        → (cells′ : List Cell) (n′ : ℕ) (jobs′ : List Job) (m′ : ℕ) → n′ ≤ 64 → Holds b t cells′ n′ jobs′ m′
+        → (cells′ : List StoredCell) (n′ : ℕ) (jobs′ : List StoredJob) (m′ : ℕ) → n′ ≤ 64 → Holds b t cells′ n′ jobs′ m′
         → Playing b c shapes offsets starts list room-cells room-jobs before (set now at a) cells′ n′ jobs′ m′ p (at + 1)
     further e ee p ep a t lands cells′ n′ jobs′ m′ f q =
         let k = walk list o (w .going .whole) h in
@@ -163,13 +163,13 @@ module _ {b : List ℕ} {c : Label} {shapes offsets starts list room-cells room-
           (w .cells-fit) (w .going .holds)
 
       -- its next step stands at z, if its end u is not 0
-      module _ (r : i < m) (d : Job) (z : ℕ) (ez : z ≡ getD jobs i d .at) (u : ℕ) (eu : u ≡ stepEnd b z) where
+      module _ (r : i < m) (d : StoredJob) (z : ℕ) (ez : z ≡ getD jobs i d .at) (u : ℕ) (eu : u ≡ stepEnd b z) where
         pub playing-over : u ≡ 0 → Playing b c shapes offsets starts list room-cells room-jobs before (set now at 2) cells n jobs m (o + 2) (at + 1)
         playing-over e =
             further (StepOf i) event (o + 2) (next-step list o here) 2 (w .going .state)
             (step-none (w .going .holds) i d r (rw (← ez) (sym (Decoded.step-none b z u eu e)))) cells n jobs m (w .cells-fit) (w .going .holds)
 
-    module _ (p : ℕ) (ep : p ≡ next list o) where
+    module _ (p : ℕ) (ep : p ≡ nextEvent list o) where
       -- an outsider's event
       module _ (here : getD list o 0 ≡ 80 → ⊥) (e : Event) (ee : e ≡ eventAt list o) (f : Bool) (ef : f ≡ such c (shapeIn shapes) (length starts) n e) where
         pub known : f ≡ such (parse b .c) (shapeIn shapes) (length starts) n e

@@ -21,7 +21,7 @@ use Rattle.book.proofs.Blocks.{nth}
 use Rattle.book.proofs.Readable.{readable}
 use Rattle.book.proofs.Stretches.{block}
 use Rattle.machine.specs.Events.{noBlock, blockOf}
-use Rattle.acts.specs.declared.Job.{Job}
+use Rattle.acts.specs.declared.StoredJob.{StoredJob}
 use Rattle.tables.specs.Opening.{startIn}
 use Rattle.interpreter.specs.Loop.{Placed}
 
@@ -29,7 +29,7 @@ end-whole : (b : List ℕ) → Whole b (length b)
 unfolding sweep
 end-whole b = simp (records-end b (length b) (omega arith))
 
-module _ (b : List ℕ) (ok : unreadable b ≡ Passed) (starts : List ℕ) (e : starts ≡ map startAt (blocksOf b)) (j : Job) (x : ℕ) (eb : j .block ≡ x)
+module _ (b : List ℕ) (ok : unreadable b ≡ Passed) (starts : List ℕ) (e : starts ≡ map startAt (blocksOf b)) (j : StoredJob) (x : ℕ) (eb : j .block ≡ x)
     (ep : j .position ≡ 0) where
   count : length starts ≡ length (blocksOf b)
   count = ap length e ∙ length-map (blocksOf b) startAt

@@ -26,14 +26,14 @@ use Rattle.machine.specs.States as States
 use Rattle.machine.specs.Acts.{freshJob}
 use Rattle.machine.specs.Steps.{moved, gets}
 use Rattle.events.proofs.Scans.{next-step}
-use Rattle.acts.specs.declared.Cell.{Cell}
-use Rattle.acts.specs.declared.Job.{Job}
+use Rattle.acts.specs.declared.StoredCell.{StoredCell}
+use Rattle.acts.specs.declared.StoredJob.{StoredJob}
 use Rattle.acts.specs.declared.Stored.{Stored}
-use Rattle.acts.specs.declared.Effect.{Effect}
-use Rattle.acts.specs.declared.Effect.the-variants.{Blocked, Give, Lower, Store, Create, Launch}
+use Rattle.acts.specs.declared.Act.{Act}
+use Rattle.acts.specs.declared.Act.the-variants.{Blocked, Give, Lower, Store, Create, Launch}
 use Rattle.acts.specs.Views.{valueIn, storedOf, jobOf, nearby, effectOf, jobAfter, answerOf, lowered, clamped, sortOf, Only, waits, acts}
 use Rattle.turns.specs.Turns.{targetIn, reachedIn, Takes, Gives, Changes, Launches}
-use Rattle.acts.proofs.Effect.{the-type}
+use Rattle.acts.proofs.Act.{the-type}
 use Rattle.turns.proofs.Targets.{target-number}
 use Rattle.interpreter.proofs.Nearby.{Allowed, store-inside, create-room, launch-room}
 use Rattle.tables.specs.Opening.{startIn}
@@ -60,7 +60,7 @@ step-stands b z u eu un = (omega (arith, Decoded.step-inside b z u eu un), Decod
 elsewhere : (n : ℕ) (ks : List ℕ) (i : ℕ) → i ≡ n → T (not (hasKey ks n)) → OneOf ks i → ⊥
 elsewhere n ks i e a k = miss ks i (rw e a) k
 
-blocks : (n : ℕ) (ks : List ℕ) (x : Effect) → Only n x → T (not (hasKey ks n)) → OneOf ks (tagOf the-type x) → x ≡ Blocked
+blocks : (n : ℕ) (ks : List ℕ) (x : Act) → Only n x → T (not (hasKey ks n)) → OneOf ks (tagOf the-type x) → x ≡ Blocked
 unfolding sortOf
 blocks n ks Blocked o a k = refl
 blocks n ks (Give r v) (waits e) a k = absurd (omega arith)
@@ -76,8 +76,8 @@ blocks n ks (Launch y l s) (acts e) a k = absurd (elsewhere n ks 5 e a k)
 
 -- a step that stands, its cell looked up: the loop's variables, the job's number i, where the step stands, z, and ends, u, the register t that names
 -- the cell, and its entry q of the table
-pub record Stepping (b : List ℕ) (c : Label) (shapes offsets starts list room-cells room-jobs before now : List ℕ) (cells : List Cell) (n : ℕ)
-    (jobs : List Job) (m o at i : ℕ) (d : Job) (z u : ℕ) (t : Stored) (q : ℕ) : Type 0 where
+pub record Stepping (b : List ℕ) (c : Label) (shapes offsets starts list room-cells room-jobs before now : List ℕ) (cells : List StoredCell) (n : ℕ)
+    (jobs : List StoredJob) (m o at i : ℕ) (d : StoredJob) (z u : ℕ) (t : Stored) (q : ℕ) : Type 0 where
   pub w : Playing b c shapes offsets starts list room-cells room-jobs before now cells n jobs m o at
   pub h : o < length list
   pub here : getD list o 0 ≡ 80
@@ -101,22 +101,22 @@ pub record SomeStep : Type 0 where
   pub room-jobs : List ℕ
   pub before : List ℕ
   pub now : List ℕ
-  pub cells : List Cell
+  pub cells : List StoredCell
   pub n : ℕ
-  pub jobs : List Job
+  pub jobs : List StoredJob
   pub m : ℕ
   pub o : ℕ
   pub at : ℕ
   pub i : ℕ
-  pub d : Job
+  pub d : StoredJob
   pub z : ℕ
   pub u : ℕ
   pub t : Stored
   pub q : ℕ
   pub known : Stepping b c shapes offsets starts list room-cells room-jobs before now cells n jobs m o at i d z u t q
 
-module _ {b : List ℕ} {c : Label} {shapes offsets starts list room-cells room-jobs before now : List ℕ} {cells : List Cell} {n : ℕ} {jobs : List Job}
-    {m o at i : ℕ} {d : Job} {z u : ℕ} {t : Stored} {q : ℕ}
+module _ {b : List ℕ} {c : Label} {shapes offsets starts list room-cells room-jobs before now : List ℕ} {cells : List StoredCell} {n : ℕ} {jobs : List StoredJob}
+    {m o at i : ℕ} {d : StoredJob} {z u : ℕ} {t : Stored} {q : ℕ}
     (step : Stepping b c shapes offsets starts list room-cells room-jobs before now cells n jobs m o at i d z u t q) where
   abbrev state : State Label
   state = step .w .going .state
@@ -125,7 +125,7 @@ module _ {b : List ℕ} {c : Label} {shapes offsets starts list room-cells room-
   holds = step .w .going .holds
 
   -- behind the event, with this answer and these tables
-  abbrev Onward : ℕ → List Cell → ℕ → List Job → ℕ → Type 0
+  abbrev Onward : ℕ → List StoredCell → ℕ → List StoredJob → ℕ → Type 0
   Onward a cells′ n′ jobs′ m′ = Playing b c shapes offsets starts list room-cells room-jobs before (set now at a) cells′ n′ jobs′ m′ (o + 2) (at + 1)
 
   found : stepFound b (getD jobs i d .at) ≡ StepThere (stepAt b z) u
@@ -154,7 +154,7 @@ module _ {b : List ℕ} {c : Label} {shapes offsets starts list room-cells room-
     step-launches a f = (record { from = above k (byteAt b z) ek a f }, place .0, (step .et))
 
   -- the cell there, and what the step does, x
-  module _ (dc cell : Cell) (ec : cell ≡ getD cells q dc) (f : ℕ) (x : Effect)
+  module _ (dc cell : StoredCell) (ec : cell ≡ getD cells q dc) (f : ℕ) (x : Act)
       (ex : Takes f (nearby (record { cell = cell; cells = n; jobs = m })) (stepAt b z) (getD jobs i d .label) (getD jobs i d .source) (getD jobs i d .registers) x) where
     number-is : t .number ≡ reachedIn (stepAt b z) (getD jobs i d .source) (getD jobs i d .registers)
     number-is = target-number (stepAt b z) (getD jobs i d .source) (getD jobs i d .registers) t (step .et)
@@ -162,8 +162,8 @@ module _ {b : List ℕ} {c : Label} {shapes offsets starts list room-cells room-
     looked : cell ≡ getD cells (clamped (reachedIn (stepAt b z) (getD jobs i d .source) (getD jobs i d .registers))) dc
     looked = ec ∙ ap (λ q. getD cells q dc) ((step .eq) ∙ ap clamped number-is)
 
-    stepped : (g : Job) → jobOf g ≡ jobAfter state (jobOf (getD jobs i d)) x → (a : ℕ) → a ≡ answerOf x
-        → (cells′ : List Cell) (n′ : ℕ) (jobs′ : List Job) (m′ : ℕ) → n′ ≤ 64
+    stepped : (g : StoredJob) → jobOf g ≡ jobAfter state (jobOf (getD jobs i d)) x → (a : ℕ) → a ≡ answerOf x
+        → (cells′ : List StoredCell) (n′ : ℕ) (jobs′ : List StoredJob) (m′ : ℕ) → n′ ≤ 64
         → Holds b (stateOf state (withJob state i g) (t .number) x) cells′ n′ jobs′ m′
         → Onward a cells′ n′ jobs′ m′
     stepped g eg a ea cells′ n′ jobs′ m′ l v =
@@ -177,7 +177,7 @@ module _ {b : List ℕ} {c : Label} {shapes offsets starts list room-cells room-
     fits = allowed-at state x (t .number) _ number-is (Lands.step-fits holds i d (step .r) (stepAt b z) u found dc cell looked x f ex)
 
     -- the job put back
-    put : (g : Job) → g .at ≡ u → jobOf g .block ≡ getD jobs i d .block → jobOf g .position ≡ suc (getD jobs i d .position)
+    put : (g : StoredJob) → g .at ≡ u → jobOf g .block ≡ getD jobs i d .block → jobOf g .position ≡ suc (getD jobs i d .position)
         → Holds b (withJob state i g) cells n (set jobs i g) m
     put g eat eb epo =
         holds-job holds i g (step .r)
@@ -190,7 +190,7 @@ module _ {b : List ℕ} {c : Label} {shapes offsets starts list room-cells room-
     pub step-waits : (ks : List ℕ) → T (not (hasKey ks f)) → OneOf ks (tagOf the-type x) → Onward 1 cells n jobs m
     step-waits ks a k = step-blocked (blocks f ks x (ex .only) a k)
 
-    pub step-room : (y : ℕ) (v : Cell) → x ≡ Create y v → n < 64
+    pub step-room : (y : ℕ) (v : StoredCell) → x ≡ Create y v → n < 64
     unfolding effectOf
     step-room y v e = let s = create-room state (rw e at fits) in omega (arith, cells-in-use holds)
 
@@ -198,7 +198,7 @@ module _ {b : List ℕ} {c : Label} {shapes offsets starts list room-cells room-
     unfolding effectOf
     step-free y l s e = let v = launch-room state (rw e at fits) in omega (arith, jobs-in-use holds)
 
-    module _ (g : Job) where
+    module _ (g : StoredJob) where
       pub step-give : (y : ℕ) (v : Stored) → x ≡ Give y v → (jobOf g ≡ gets sources (jobOf (getD jobs i d)) y (valueIn v) (v .source)) × (g .at ≡ u)
           → Onward 0 cells n (set jobs i g) m
       unfolding jobAfter stateOf answerOf
@@ -213,7 +213,7 @@ module _ {b : List ℕ} {c : Label} {shapes offsets starts list room-cells room-
           stepped g (rw e (eg .0)) 0 (rw e refl) cells n (set jobs i g) m (step .w .cells-fit)
           (rw e (put g (eg .1) (ap (λ (j : States.Job Label). j .block) (eg .0)) (ap (λ (j : States.Job Label). j .position) (eg .0))))
 
-      pub step-store : (y : Cell) → x ≡ Store y → (jobOf g ≡ moved sources (jobOf (getD jobs i d))) × (g .at ≡ u)
+      pub step-store : (y : StoredCell) → x ≡ Store y → (jobOf g ≡ moved sources (jobOf (getD jobs i d))) × (g .at ≡ u)
           → Onward 0 (set cells q y) n (set jobs i g) m
       unfolding jobAfter stateOf effectOf answerOf
       step-store y e eg =
@@ -224,7 +224,7 @@ module _ {b : List ℕ} {c : Label} {shapes offsets starts list room-cells room-
           stepped g (rw e (eg .0)) 0 (rw e refl) (set cells q y) n (set jobs i g) m (step .w .cells-fit)
           (rw e (holds-entry cells y q (t .number) qk (holds-store v y (t .number))))
 
-      pub step-create : (y : ℕ) (v : Cell) → x ≡ Create y v
+      pub step-create : (y : ℕ) (v : StoredCell) → x ≡ Create y v
           → (jobOf g ≡ gets sources (jobOf (getD jobs i d)) y (CellName n) (getD jobs i d .source)) × (g .at ≡ u)
           → Onward 0 (set cells n v) (n + 1) (set jobs i g) m
       unfolding jobAfter stateOf answerOf
@@ -235,7 +235,7 @@ module _ {b : List ℕ} {c : Label} {shapes offsets starts list room-cells room-
           (rw e (holds-create s v (step-room y v e)))
 
       pub step-launch : (y : ℕ) (l s : Label) → x ≡ Launch y l s → (jobOf g ≡ moved sources (jobOf (getD jobs i d))) × (g .at ≡ u)
-          → (start : ℕ) (child : Job) → start ≡ startIn starts y (length b)
+          → (start : ℕ) (child : StoredJob) → start ≡ startIn starts y (length b)
           → (jobOf child ≡ freshJob sources y l s) × (child .at ≡ start) × (child .position ≡ 0) × (child .block ≡ y)
           → Onward 0 cells n (set (set jobs i g) m child) (m + 1)
       unfolding jobAfter stateOf answerOf

@@ -20,19 +20,19 @@ use Rattle.machine.specs.Histories.{sources}
 use Rattle.machine.specs.Events.{launchLabel, blockOf, freshState}
 use Rattle.events.specs.Bytes.{eventsIn, unplayable}
 use Rattle.tables.specs.Bytes.{cellTableSize, jobTableSize}
-use Rattle.acts.specs.declared.Cell.{Cell}
-use Rattle.acts.specs.declared.Job.{Job}
+use Rattle.acts.specs.declared.StoredCell.{StoredCell}
+use Rattle.acts.specs.declared.StoredJob.{StoredJob}
 use Rattle.acts.specs.Views.{cellOf, jobOf}
 
 -- in the book b the steps that are left of the job's block stand from j's offset on
-pub record Placed (b : List ℕ) (j : Job) : Type 0 where
+pub record Placed (b : List ℕ) (j : StoredJob) : Type 0 where
   pub inside : j .at ≤ length b
   pub whole : Whole b (j .at)
   pub left : map (stepAt b) (stepsFrom b (j .at)) ≡ drop (j .position) (blockOf (parse b) (j .block) .steps)
   pub behind : j .position ≤ j .at
 
 -- n cells and m jobs at the front of the arrays are those of the state s
-pub record Holds (b : List ℕ) (s : State Label) (cells : List Cell) (n : ℕ) (jobs : List Job) (m : ℕ) : Type 0 where
+pub record Holds (b : List ℕ) (s : State Label) (cells : List StoredCell) (n : ℕ) (jobs : List StoredJob) (m : ℕ) : Type 0 where
   pub cells-are : map cellOf (take n cells) ≡ s .cells
   pub cells-long : length cells ≡ 64
   pub cells-fit : n ≤ 64
@@ -40,7 +40,7 @@ pub record Holds (b : List ℕ) (s : State Label) (cells : List Cell) (n : ℕ) 
   pub jobs-long : length jobs ≡ 64
   pub jobs-fit : m ≤ 64
   pub some-job : 0 < m
-  pub placed : (i : ℕ) (d : Job) → i < m → Placed b (getD jobs i d)
+  pub placed : (i : ℕ) (d : StoredJob) → i < m → Placed b (getD jobs i d)
 
 -- the machine's state at the start, over sources
 abbrev pub opening : List ℕ → State Label

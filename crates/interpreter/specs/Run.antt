@@ -18,7 +18,7 @@ use Rattle.machine.specs.Events.{tableSize, launchLabel, freshState, stateAfter
 use Rattle.machine.specs.Records.{cellRecords, jobRecords}
 use Rattle.events.specs.Bytes.{eventsIn, unplayable}
 use Rattle.tables.specs.Bytes.{cellTableSize, jobTableSize, cellTable, jobTable}
-use Rattle.interpreter.specs.declared.Ran.{Ran}
+use Rattle.interpreter.specs.declared.RunResult.{RunResult}
 
 -- "a stage covers the whole book before the next begins"
 unfoldable pub orNext : Refusal → Refusal → Refusal
@@ -54,7 +54,7 @@ pub record Run : Type 0 where
   pub answered : List ℕ
 
 -- what a call gave, and what it left in the cell table, the job table and the answer buffer
-abbrev pub runBy : Ran → List ℕ → List ℕ → List ℕ → Run
+abbrev pub runBy : RunResult → List ℕ → List ℕ → List ℕ → Run
 runBy r cells jobs answered =
     record { refusal = r .refusal; cellCount = r .cells; jobCount = r .jobs; cells = cells; jobs = jobs; answered = answered }
 

@@ -1,7 +1,7 @@
 // The events of a run, one after the other, from the fresh state to the saved tables.
-use acts::Effect;
-use acts::Job;
+use acts::Act;
 use acts::Near;
+use acts::StoredJob;
 use book::Refusal;
 use book::kind;
 use labels::Label;
@@ -13,7 +13,7 @@ ghost use Rattle.interpreter.specs.Loop.{Ready};
 ghost use Rattle.interpreter.specs.Run.{runBy, ranOf};
 
 // What a run gives: its refusal, or the cells and jobs in use. After a refusal both are 0.
-pub struct Ran {
+pub struct RunResult {
     pub refusal: Refusal,
     pub cells: usize,
     pub jobs: usize,
@@ -32,15 +32,15 @@ pub fn play(
     cells: &mut [u8],
     jobs: &mut [u8],
     answers: &mut [u8],
-) -> Ran
+) -> RunResult
     requires { ⌜ Ready (now book) c (now shapes) (now offsets) (now starts) bound (now list) (now cells) (now jobs) (now answers) ⌝ }
     ensures { λ r. ⌜ runBy r (now (cells .exit)) (now (jobs .exit)) (now (answers .exit)) ≡ ranOf Passed (now (book .entry)) (now (list .entry)) (now (cells .entry)) (now (jobs .entry)) (now (answers .entry)) ⌝ }
     ensures { λ r. ⌜ (r .cells ≤ 64) × (r .jobs ≤ 64) ⌝ }
 {
     let mut held = tables::open_cells(book, offsets);
-    let none = Job::fresh(0, 0, Label(0), Label(0));
-    let mut begun = [none; Job::TABLE_SIZE];
-    let first = Job::fresh(0, tables::start_of(starts, 0, book.len()), bound, bound);
+    let none = StoredJob::fresh(0, 0, Label(0), Label(0));
+    let mut begun = [none; StoredJob::TABLE_SIZE];
+    let first = StoredJob::fresh(0, tables::start_of(starts, 0, book.len()), bound, bound);
     begun[0] = first;
     let mut n = offsets.len();
     let mut m: usize = 1;
@@ -73,7 +73,7 @@ pub fn play(
                 };
                 if k == kind::NEW {
                     let x = turns::create(book, place, j.label, j.source, registers, near);
-                    if let Effect::Create(r, d) = x {
+                    if let Act::Create(r, d) = x {
                         let t = acts::names(j, past, r, n);
                         begun[i] = t;
                         held[n] = d;
@@ -84,7 +84,7 @@ pub fn play(
                     }
                 } else if k < kind::WRITE {
                     let x = turns::give(book, place, j.label, j.source, registers, near, u);
-                    if let Effect::Give(r, v) = x {
+                    if let Act::Give(r, v) = x {
                         let t = acts::gets(j, past, r, v);
                         begun[i] = t;
                         answers[slot] = answer::DONE;
@@ -93,7 +93,7 @@ pub fn play(
                     }
                 } else if k < kind::LOWER {
                     let x = turns::change(book, place, j.label, j.source, registers, near, u);
-                    if let Effect::Store(d) = x {
+                    if let Act::Store(d) = x {
                         let t = acts::moved(j, past);
                         begun[i] = t;
                         held[q] = d;
@@ -103,7 +103,7 @@ pub fn play(
                     }
                 } else if k == kind::LOWER {
                     let x = turns::lower(book, place, j.label, j.source, registers, near);
-                    if let Effect::Lower(l, h) = x {
+                    if let Act::Lower(l, h) = x {
                         let t = acts::lowered(j, past, l, h);
                         begun[i] = t;
                         answers[slot] = answer::DONE;
@@ -112,10 +112,15 @@ pub fn play(
                     }
                 } else {
                     let x = turns::launch(book, place, j.label, j.source, registers, near, u);
-                    if let Effect::Launch(b, l, h) = x {
+                    if let Act::Launch(b, l, h) = x {
                         let t = acts::moved(j, past);
                         begun[i] = t;
-                        let child = Job::fresh(b, tables::start_of(starts, b, book.len()), l, h);
+                        let child = StoredJob::fresh(
+                            b,
+                            tables::start_of(starts, b, book.len()),
+                            l,
+                            h,
+                        );
                         begun[m] = child;
                         m = m + 1;
                         answers[slot] = answer::DONE;
@@ -143,18 +148,23 @@ pub fn play(
                 );
                 answers[slot] = acts::answer_of(x);
                 match x {
-                    Effect::Blocked => {}
-                    Effect::Give(_, _) => {}
-                    Effect::Lower(_, _) => {}
-                    Effect::Store(d) => {
+                    Act::Blocked => {}
+                    Act::Give(_, _) => {}
+                    Act::Lower(_, _) => {}
+                    Act::Store(d) => {
                         held[q] = d;
                     }
-                    Effect::Create(_, d) => {
+                    Act::Create(_, d) => {
                         held[n] = d;
                         n = n + 1;
                     }
-                    Effect::Launch(b, l, h) => {
-                        let child = Job::fresh(b, tables::start_of(starts, b, book.len()), l, h);
+                    Act::Launch(b, l, h) => {
+                        let child = StoredJob::fresh(
+                            b,
+                            tables::start_of(starts, b, book.len()),
+                            l,
+                            h,
+                        );
                         begun[m] = child;
                         m = m + 1;
                     }
@@ -171,8 +181,8 @@ pub fn play(
         tables::save_job(j, y, jobs);
         y = y + 1;
     }
-    tables::clear_from(jobs, m * Job::BYTES);
-    Ran {
+    tables::clear_from(jobs, m * StoredJob::BYTES);
+    RunResult {
         refusal: Refusal::Passed,
         cells: n,
         jobs: m,

@@ -14,8 +14,8 @@ use Rattle.machine.specs.declared.Event.{Event}
 use Rattle.machine.specs.declared.Event.the-variants.{StepOf, WriteBy, RelabelBy, NewBy, ExecBy, StartBy}
 use Rattle.machine.specs.Histories.{Histories}
 use Rattle.machine.specs.States.{Traced, Job, State}
-use Rattle.machine.specs.Acts.{Effect, blocked, keep, store, create, launch, zeroWith, writing, relabelling, making, starting, executing}
-use Rattle.machine.specs.Steps.{Turn, register, adding, reading, lowering, turnOf}
+use Rattle.machine.specs.Acts.{Effect, blocked, keep, store, create, launch, zeroWith, writeAct, relabelAct, newAct, startAct, execAct}
+use Rattle.machine.specs.Steps.{Turn, register, addStep, readStep, lowerStep, turnOf}
 use Rattle.machine.specs.Events.{Outcome, landed, turnLanded, outcomeOf, declared, freshState, stateAfter, answers}
 use Rattle.machine.specs.Images.{Image, tracedImage, cellImage, jobImage, stateImage, outcomeImage, Images}
 use Rattle.machine.proofs.Maps.{map-set, getElem?-map, given-map, onSome-map, onPlain-map, onCell-map, onCode-map, onSome-entry}
@@ -39,32 +39,32 @@ module _ (A B : Histories) (i : Image A B) where
 
   -- the acts
   module _ (s : State (A .H)) (l : Label) (h : A .H) where
-    writing-image : (k : ℕ) (v : Traced (A .H)) → effectImage of (writing A s l h k v) ≡ writing B (stateImage of s) l (of h) k (tracedImage of v)
-    unfolding writing effectImage
+    writing-image : (k : ℕ) (v : Traced (A .H)) → effectImage of (writeAct A s l h k v) ≡ writeAct B (stateImage of s) l (of h) k (tracedImage of v)
+    unfolding writeAct effectImage
     writing-image k v = simp (getElem?-map (cellImage of), onSome-entry, onSome-map (effectImage of), given-map (effectImage of), of-join)
 
-    relabelling-image : (k : ℕ) (o : Label) → effectImage of (relabelling A s l h k o) ≡ relabelling B (stateImage of s) l (of h) k o
-    unfolding relabelling effectImage
+    relabelling-image : (k : ℕ) (o : Label) → effectImage of (relabelAct A s l h k o) ≡ relabelAct B (stateImage of s) l (of h) k o
+    unfolding relabelAct effectImage
     relabelling-image k o = simp (getElem?-map (cellImage of), onSome-entry, onSome-map (effectImage of), given-map (effectImage of))
 
   module _ (size : ℕ) (s : State (A .H)) (l : Label) (h : A .H) where
-    making-image : (k : ℕ) (v : Traced (A .H)) → effectImage of (making A size s l h k v) ≡ making B size (stateImage of s) l (of h) k (tracedImage of v)
-    unfolding making effectImage
+    making-image : (k : ℕ) (v : Traced (A .H)) → effectImage of (newAct A size s l h k v) ≡ newAct B size (stateImage of s) l (of h) k (tracedImage of v)
+    unfolding newAct effectImage
     making-image k v = simp (length-map, given-map (effectImage of), of-join)
 
-    starting-image : (b : ℕ) → effectImage of (starting A size s l h b) ≡ starting B size (stateImage of s) l (of h) b
-    unfolding starting effectImage
+    starting-image : (b : ℕ) → effectImage of (startAct A size s l h b) ≡ startAct B size (stateImage of s) l (of h) b
+    unfolding startAct effectImage
     starting-image b = simp (length-map, given-map (effectImage of))
 
-    executing-image : (k : ℕ) → effectImage of (executing A size s l h k) ≡ executing B size (stateImage of s) l (of h) k
-    unfolding executing effectImage
+    executing-image : (k : ℕ) → effectImage of (execAct A size s l h k) ≡ execAct B size (stateImage of s) l (of h) k
+    unfolding execAct effectImage
     executing-image k =
         simp (getElem?-map (cellImage of), onSome-entry, onSome-map (effectImage of), onCode-map (effectImage of), length-map, given-map (effectImage of), of-join, of-one)
 
   -- a step
   module _ (size : ℕ) (s : State (A .H)) (j : Job (A .H)) where
     turn-image : (p : Step) → turnImage of (turnOf A size s j p) ≡ turnOf B size (stateImage of s) (jobImage of j) p
-    unfolding turnOf adding reading lowering effectImage
+    unfolding turnOf addStep readStep lowerStep effectImage
     turn-image (Put r n) = simp (map-set (tracedImage of))
     turn-image (Name r k) = simp (map-set (tracedImage of))
     turn-image (Code r b) = simp (map-set (tracedImage of))

@@ -32,9 +32,9 @@ use Rattle.machine.specs.declared.Event.{Event}
 use Rattle.machine.specs.declared.Event.the-variants.{StepOf, WriteBy, RelabelBy, NewBy, ExecBy, StartBy}
 use Rattle.machine.specs.Histories.{Histories}
 use Rattle.machine.specs.States.{Traced, Cell, Job, State}
-use Rattle.machine.specs.Acts.{Effect, blocked, keep, store, create, launch, freshJob, zeroWith, writing, relabelling, making, starting, executing}
-use Rattle.machine.specs.Steps.{Turn, sum, register, gets, moved, adding, reading, lowering, through, turnOf}
-use Rattle.machine.specs.Events.{noBlock, blockOf, isValue, Outcome, declared, landed, turnLanded, outcomeOf, freshState, stateAfter}
+use Rattle.machine.specs.Acts.{Effect, blocked, keep, store, create, launch, freshJob, zeroWith, writeAct, relabelAct, newAct, startAct, execAct}
+use Rattle.machine.specs.Steps.{Turn, sum, register, gets, moved, addStep, readStep, lowerStep, through, turnOf}
+use Rattle.machine.specs.Events.{noBlock, blockOf, valueExists, Outcome, declared, landed, turnLanded, outcomeOf, freshState, stateAfter}
 use Rattle.machine.specs.Records.{numberOf}
 use Rattle.machine.proofs.Cases.{given-both, some-both, plain-both, cell-both, code-both}
 
@@ -176,29 +176,29 @@ module _ (Q : ℕ → Type 0) (A : Histories) (K : Book) (size : ℕ) (N : Numbe
 
   -- the acts, in a state whose names exist
   module _ (s : State H) (q : StateNamed Q K s) (l : Label) (h : H) where
-    writing-named : (k : ℕ) (v : Traced H) → TracedNamed Q K v → EffectNamed Q K (writing A s l h k v)
-    unfolding writing
+    writing-named : (k : ℕ) (v : Traced H) → TracedNamed Q K v → EffectNamed Q K (writeAct A s l h k v)
+    unfolding writeAct
     writing-named k v n =
         some-both (EffectNamed Q K) blocked-named
         (λ c ec. given-both (EffectNamed Q K) blocked-named (λ t. store-named (record { content = record { value = n .value } })))
 
-    relabelling-named : (k : ℕ) (o : Label) → EffectNamed Q K (relabelling A s l h k o)
-    unfolding relabelling
+    relabelling-named : (k : ℕ) (o : Label) → EffectNamed Q K (relabelAct A s l h k o)
+    unfolding relabelAct
     relabelling-named k o =
         some-both (EffectNamed Q K) blocked-named
         (λ c ec. given-both (EffectNamed Q K) blocked-named
         (λ t. store-named (record { content = all-at (CellNamed Q K) (s .cells) k c (q .cells) ec .content })))
 
-    making-named : (i : ℕ) (v : Traced H) → TracedNamed Q K v → EffectNamed Q K (making A size s l h i v)
-    unfolding making
+    making-named : (i : ℕ) (v : Traced H) → TracedNamed Q K v → EffectNamed Q K (newAct A size s l h i v)
+    unfolding newAct
     making-named i v n = given-both (EffectNamed Q K) blocked-named (λ t. create-named (record { content = record { value = n .value } }))
 
-    starting-named : (b : ℕ) → b < blocks → EffectNamed Q K (starting A size s l h b)
-    unfolding starting
+    starting-named : (b : ℕ) → b < blocks → EffectNamed Q K (startAct A size s l h b)
+    unfolding startAct
     starting-named b i = given-both (EffectNamed Q K) blocked-named (λ t. launch-named (fresh-named b l h i))
 
-    executing-named : (k : ℕ) → EffectNamed Q K (executing A size s l h k)
-    unfolding executing
+    executing-named : (k : ℕ) → EffectNamed Q K (execAct A size s l h k)
+    unfolding execAct
     executing-named k =
         some-both (EffectNamed Q K) blocked-named
         (λ c ec. code-both (EffectNamed Q K) blocked-named
@@ -229,7 +229,7 @@ module _ (Q : ℕ → Type 0) (A : Histories) (K : Book) (size : ℕ) (N : Numbe
     through-named w f g = cell-both (TurnNamed Q K) waits (λ k ek. goes moved-named (g k))
 
     turn-named : (f : ℕ → Bool) (cells : ℕ) (p : Step) → stepNamed f cells blocks p ≡ true → Q (stepNumber p) → TurnNamed Q K (turnOf A size s j p)
-    unfolding turnOf adding reading lowering making stepNamed
+    unfolding turnOf addStep readStep lowerStep newAct stepNamed
     turn-named f cells (Put r x) e h = giving-named r _ _ (plain-named h)
     turn-named f cells (Name r k) e h = giving-named r _ _ (cell-named h)
     turn-named f cells (Code r b) e h = giving-named r _ _ (code-named (ltb-true _ _ e))
@@ -265,7 +265,7 @@ module _ (Q : ℕ → Type 0) (A : Histories) (K : Book) (size : ℕ) (N : Numbe
       same : {n : ℕ} → OutcomeNamed Q K (record { answer = n; state = s })
       same = record { state = q }
 
-      brought-named : (v n : ℕ) → isValue K s v n ≡ true → Q n → Named Q blocks (valueOf v n)
+      brought-named : (v n : ℕ) → valueExists K s v n ≡ true → Q n → Named Q blocks (valueOf v n)
       brought-named v n t h = value-named _ _ (both-right _ _ t) (rw (number-is v n) h)
 
       outcome-named : (e : Event) → EventHas Q e → OutcomeNamed Q K (outcomeOf A size K s e)

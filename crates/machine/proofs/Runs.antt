@@ -10,13 +10,13 @@ use Rattle.book.specs.Control.{either}
 use Rattle.book.specs.Book.{groupOf, stepsFrom, shapeAt, valueOf, declaredAt, stepAt, blockAt, parse}
 use Rattle.book.specs.Refusals.{valueNamed}
 use Rattle.machine.specs.Control.{given, onPlain, onCell, onCode}
-use Rattle.machine.specs.Acts.{execLabel, writing, relabelling, making, starting, executing}
-use Rattle.machine.specs.Steps.{sum, adding, reading, lowering, turnOf}
+use Rattle.machine.specs.Acts.{execLabel, writeAct, relabelAct, newAct, startAct, execAct}
+use Rattle.machine.specs.Steps.{sum, addStep, readStep, lowerStep, turnOf}
 use Rattle.machine.specs.Events.{landed, turnLanded, outcomeOf, stateAfter, answers}
 use Rattle.machine.specs.Samples.{SampleRuns, HistoryRun}
 
 pub sample-runs : SampleRuns
-unfolding lower both either those while span limits group numberAt cutBy offsetsIn offsetsBy groupOf stepsFrom shapeAt valueOf declaredAt stepAt blockAt parse valueNamed onSome given onPlain onCell onCode execLabel writing relabelling making starting executing sum adding reading lowering turnOf landed turnLanded outcomeOf stateAfter answers
+unfolding lower both either those while span limits group numberAt cutBy offsetsIn offsetsBy groupOf stepsFrom shapeAt valueOf declaredAt stepAt blockAt parse valueNamed onSome given onPlain onCell onCode execLabel writeAct relabelAct newAct startAct execAct sum addStep readStep lowerStep turnOf landed turnLanded outcomeOf stateAfter answers
 sample-runs =
     record {
       high-answers = refl;
@@ -28,5 +28,5 @@ sample-runs =
     }
 
 pub history-run : HistoryRun
-unfolding lower both either those while span limits group numberAt cutBy offsetsIn offsetsBy groupOf stepsFrom shapeAt valueOf declaredAt stepAt blockAt parse valueNamed onSome given onPlain onCell onCode execLabel writing relabelling making starting executing sum adding reading lowering turnOf landed turnLanded outcomeOf stateAfter answers
+unfolding lower both either those while span limits group numberAt cutBy offsetsIn offsetsBy groupOf stepsFrom shapeAt valueOf declaredAt stepAt blockAt parse valueNamed onSome given onPlain onCell onCode execLabel writeAct relabelAct newAct startAct execAct sum addStep readStep lowerStep turnOf landed turnLanded outcomeOf stateAfter answers
 history-run = record { cells = refl; jobs = refl }

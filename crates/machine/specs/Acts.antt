@@ -2,8 +2,8 @@
 --     Effect                              what an act does to the tables
 --     acted                               "An act below appends the actor's whole history to the value's."
 --     freshJob                            a job at the start of its block
---     writing, relabelling, making        write, relabel, new
---     starting, executing                 start, exec
+--     writeAct, relabelAct, newAct        write, relabel, new
+--     startAct, execAct                 start, exec
 -- Assumes nothing.
 use Prim.Native.Nat.{ℕ}
 use mathlib.Core.Bool.{Bool}
@@ -26,8 +26,8 @@ pub data Effect (H : Type 0) : Type 0 where
   launch : Job H → Effect H
 
 -- blocked unless the test holds
-abbrev pub unless : {H : Type 0} → Bool → Effect H → Effect H
-unless b e = given b e blocked
+abbrev pub blockedUnless : {H : Type 0} → Bool → Effect H → Effect H
+blockedUnless b e = given b e blocked
 
 -- the entry fits: "blocked when 64 cells exist", "blocked when 64 jobs exist"
 abbrev pub isFree : {A : Type 0} → ℕ → List A → Bool
@@ -55,32 +55,32 @@ module _ (A : Histories) where
   -- by an actor of label l and history h
   module _ (s : State H) (l : Label) (h : H) where
     -- "write: blocked unless w is a cell with label at most the job's; stores (an act)."
-    unfoldable pub writing : ℕ → Traced H → Effect H
-    writing k v =
+    unfoldable pub writeAct : ℕ → Traced H → Effect H
+    writeAct k v =
         onSome (getElem? (s .cells) k) blocked
-        (λ c. unless (reaches l (c .label)) (store k (record { shape = c .shape; label = c .label; content = acted h v })))
+        (λ c. blockedUnless (reaches l (c .label)) (store k (record { shape = c .shape; label = c .label; content = acted h v })))
 
     -- "relabel: blocked unless w is a cell and its old and new label are at most the job's."
-    unfoldable pub relabelling : ℕ → Label → Effect H
-    relabelling k o =
+    unfoldable pub relabelAct : ℕ → Label → Effect H
+    relabelAct k o =
         onSome (getElem? (s .cells) k) blocked
-        (λ c. unless (both (reaches l (c .label)) (reaches l o)) (store k (record { shape = c .shape; label = o; content = c .content })))
+        (λ c. blockedUnless (both (reaches l (c .label)) (reaches l o)) (store k (record { shape = c .shape; label = o; content = c .content })))
 
   -- and in tables of this size
   module _ (size : ℕ) (s : State H) (l : Label) (h : H) where
     -- "new: blocked when 64 cells exist; a cell with the job's label, the shape, the content (an act)"
-    unfoldable pub making : ℕ → Traced H → Effect H
-    making i v = unless (isFree size (s .cells)) (create (record { shape = i; label = l; content = acted h v }))
+    unfoldable pub newAct : ℕ → Traced H → Effect H
+    newAct i v = blockedUnless (isFree size (s .cells)) (create (record { shape = i; label = l; content = acted h v }))
 
     -- "start: blocked when 64 jobs exist; a job at this label with this history."
-    unfoldable pub starting : ℕ → Effect H
-    starting b = unless (isFree size (s .jobs)) (launch (freshJob b l h))
+    unfoldable pub startAct : ℕ → Effect H
+    startAct b = blockedUnless (isFree size (s .jobs)) (launch (freshJob b l h))
 
     -- "exec: blocked unless w is a cell holding code and a job fits; a job at the lower of the two labels, history: caller's, code's,
     -- new label."
-    unfoldable pub executing : ℕ → Effect H
-    executing k =
+    unfoldable pub execAct : ℕ → Effect H
+    execAct k =
         onSome (getElem? (s .cells) k) blocked
         (λ c. onCode (c .content .value) blocked
         (λ b. let m = execLabel l (c .label) in
-        unless (isFree size (s .jobs)) (launch (freshJob b m (join (join h (c .content .history)) (one m))))))
+        blockedUnless (isFree size (s .jobs)) (launch (freshJob b m (join (join h (c .content .history)) (one m))))))

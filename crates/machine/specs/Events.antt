@@ -22,7 +22,7 @@ use Rattle.machine.specs.declared.Event.the-variants.{StepOf, WriteBy, R
 use Rattle.machine.specs.Control.{given}
 use Rattle.machine.specs.Histories.{Histories}
 use Rattle.machine.specs.States.{Traced, Cell, State}
-use Rattle.machine.specs.Acts.{Effect, blocked, keep, store, create, launch, freshJob, writing, relabelling, making, starting, executing}
+use Rattle.machine.specs.Acts.{Effect, blocked, keep, store, create, launch, freshJob, writeAct, relabelAct, newAct, startAct, execAct}
 use Rattle.machine.specs.Steps.{Turn, turnOf}
 
 -- "Answer bytes: 0 done, 1 blocked, 2 no step left, 3 no such."
@@ -54,8 +54,8 @@ abbrev pub launchLabel : Book → Label
 launchLabel K = blockOf K 0 .bound
 
 -- a shape's trust, as the book states it
-abbrev pub trustOf : Book → ℕ → Trust
-trustOf K i = getD (K .shapes) i noShape .trust
+abbrev pub statedTrust : Book → ℕ → Trust
+statedTrust K i = getD (K .shapes) i noShape .trust
 
 -- Answer 3, "a job, cell, block or shape that doesn't exist (also one that the event's value names), Q above C, a label above 15, a
 -- value kind above 2, or event 83 with a shape that is no cell shape or has trust above C": what an event must have instead.
@@ -66,18 +66,18 @@ abbrev pub isLabel : Label → Bool
 isLabel o = reaches topLabel o
 
 abbrev pub isLowCellShape : Book → ℕ → Bool
-isLowCellShape K i = both (hasCellShape K i) (not (isHigh (trustOf K i) (K .c)))
+isLowCellShape K i = both (hasCellShape K i) (not (isHigh (statedTrust K i) (K .c)))
 
-abbrev pub isBlock : Book → ℕ → Bool
-isBlock K b = ltb b (length (K .blocks))
+abbrev pub blockExists : Book → ℕ → Bool
+blockExists K b = ltb b (length (K .blocks))
 
 module _ {H : Type 0} where
-  abbrev pub isCell : State H → ℕ → Bool
-  isCell s k = ltb k (length (s .cells))
+  abbrev pub cellExists : State H → ℕ → Bool
+  cellExists s k = ltb k (length (s .cells))
 
   -- a value of kind k and number n
-  abbrev pub isValue : Book → State H → ℕ → ℕ → Bool
-  isValue K s k n = both (leb k maxValueKind) (valueNamed (length (s .cells)) (length (K .blocks)) (valueOf k n))
+  abbrev pub valueExists : Book → State H → ℕ → ℕ → Bool
+  valueExists K s k n = both (leb k maxValueKind) (valueNamed (length (s .cells)) (length (K .blocks)) (valueOf k n))
 
 -- an event's answer, and the state after it
 pub record Outcome (H : Type 0) : Type 0 where
@@ -134,13 +134,13 @@ module _ (A : Histories) (size : ℕ) (K : Book) where
       (λ j. onSome (getElem? (blockOf K (j .block) .steps) (j .position)) (unchanged finished s)
       (λ p. turnLanded s i (turnOf A size s j p)))
   outcomeOf s (WriteBy q k v n) =
-      ifSuch s (both (isOutsider K q) (both (isCell s k) (isValue K s v n))) (landed s s (writing A s q (one q) k (brought A q v n)))
+      ifSuch s (both (isOutsider K q) (both (cellExists s k) (valueExists K s v n))) (landed s s (writeAct A s q (one q) k (brought A q v n)))
   outcomeOf s (RelabelBy q k o) =
-      ifSuch s (both (isOutsider K q) (both (isCell s k) (isLabel o))) (landed s s (relabelling A s q (one q) k o))
+      ifSuch s (both (isOutsider K q) (both (cellExists s k) (isLabel o))) (landed s s (relabelAct A s q (one q) k o))
   outcomeOf s (NewBy q i v n) =
-      ifSuch s (both (isOutsider K q) (both (isLowCellShape K i) (isValue K s v n))) (landed s s (making A size s q (one q) i (brought A q v n)))
-  outcomeOf s (ExecBy q k) = ifSuch s (both (isOutsider K q) (isCell s k)) (landed s s (executing A size s q (one q) k))
-  outcomeOf s (StartBy q b) = ifSuch s (both (isOutsider K q) (isBlock K b)) (landed s s (starting A size s q (one q) b))
+      ifSuch s (both (isOutsider K q) (both (isLowCellShape K i) (valueExists K s v n))) (landed s s (newAct A size s q (one q) i (brought A q v n)))
+  outcomeOf s (ExecBy q k) = ifSuch s (both (isOutsider K q) (cellExists s k)) (landed s s (execAct A size s q (one q) k))
+  outcomeOf s (StartBy q b) = ifSuch s (both (isOutsider K q) (blockExists K b)) (landed s s (startAct A size s q (one q) b))
 
   -- the state after a list of events, one after the other
   unfoldable pub stateAfter : State H → List Event → State H

@@ -12,7 +12,7 @@ use Rattle.book.specs.Numbers.{plainValue, cellValue, codeValue}
 use Rattle.book.specs.Book.{Book}
 use Rattle.machine.specs.Histories.{History, source}
 use Rattle.machine.specs.States.{Traced, Cell, Job, State}
-use Rattle.machine.specs.Events.{trustOf}
+use Rattle.machine.specs.Events.{statedTrust}
 
 -- "0 plain, 1 cell, 2 code"
 abbrev pub kindOf : Value → ℕ
@@ -50,7 +50,7 @@ abbrev pub valueRecord : Traced History → ValueRecord
 valueRecord v = record { kind = kindOf (v .value); number = numberOf (v .value); source = source (v .history) }
 
 abbrev pub cellRecord : Book → Cell History → CellRecord
-cellRecord K c = record { shape = c .shape; trust = trustOf K (c .shape); label = c .label; value = valueRecord (c .content) }
+cellRecord K c = record { shape = c .shape; trust = statedTrust K (c .shape); label = c .label; value = valueRecord (c .content) }
 
 abbrev pub jobRecord : Job History → JobRecord
 jobRecord j =

@@ -10,7 +10,7 @@ use Rattle.labels.specs.Labels.{label, trust}
 use Rattle.book.specs.declared.Value.{Value}
 use Rattle.book.specs.declared.Value.the-variants.{Plain, CodeName}
 use Rattle.book.specs.Book.{Book, parse}
-use Rattle.book.specs.Samples.{bookA, write}
+use Rattle.book.specs.Samples.{bookA, lastWrite}
 use Rattle.machine.specs.declared.Event.{Event}
 use Rattle.machine.specs.declared.Event.the-variants.{StepOf, WriteBy, RelabelBy, NewBy, ExecBy, StartBy}
 use Rattle.machine.specs.Histories.{History, hands, lists}
@@ -20,7 +20,7 @@ use Rattle.machine.specs.Records.{CellRecord, cellRecords}
 
 -- book A, with this bound
 abbrev pub ofBound : ℕ → Book
-ofBound b = parse (bookA 0x09 0x09 b write)
+ofBound b = parse (bookA 0x09 0x09 b lastWrite)
 
 abbrev pub answersOf : Book → List Event → List ℕ
 answersOf K es = answers lists tableSize K (freshState lists K (launchLabel K)) es

@@ -1,7 +1,7 @@
 -- A step of a job: 01, "The machine". Each kind of step is one definition.
 --     Turn                   the job after its step, and what the step does to the tables
 --     register, gets         a register of a job; a job whose step gave a register
---     adding, .., turnOf     each kind of step; a step
+--     addStep, .., turnOf     each kind of step; a step
 -- Assumes nothing.
 use Prim.Native.Nat.{ℕ, suc, _+_, _%_}
 use lib.ListN.{length, getD, set, getElem?}
@@ -15,7 +15,7 @@ use Rattle.book.specs.Control.{onSome}
 use Rattle.machine.specs.Control.{given, onPlain, onCell}
 use Rattle.machine.specs.Histories.{Histories}
 use Rattle.machine.specs.States.{Traced, Job, State}
-use Rattle.machine.specs.Acts.{Effect, blocked, keep, acted, zeroWith, writing, relabelling, making, starting, executing}
+use Rattle.machine.specs.Acts.{Effect, blocked, keep, acted, zeroWith, writeAct, relabelAct, newAct, startAct, execAct}
 
 -- Where the effect is blocked, the job is left as it was: "\"Blocked\" changes nothing; the job may be stepped again later."
 pub record Turn (H : Type 0) : Type 0 where
@@ -59,22 +59,22 @@ module _ (A : Histories) where
   giving j r v = turn (gets j r v (j .history)) keep
 
   -- "add: blocked unless both are plain; the sum modulo 4,294,967,296; both histories, then the act."
-  unfoldable pub adding : Job H → ℕ → Traced H → Traced H → Turn H
-  adding j r a b =
+  unfoldable pub addStep : Job H → ℕ → Traced H → Traced H → Turn H
+  addStep j r a b =
       onPlain (a .value) (stay j)
       (λ x. onPlain (b .value) (stay j)
       (λ y. turn (gets j r (Plain (sum x y)) (join (join (a .history) (b .history)) (j .history))) keep))
 
   -- "read: blocked unless w is a cell; r gets the content (an act)."
-  unfoldable pub reading : State H → Job H → ℕ → ℕ → Turn H
-  reading s j r w =
+  unfoldable pub readStep : State H → Job H → ℕ → ℕ → Turn H
+  readStep s j r w =
       onCell (register j w .value) (stay j)
       (λ k. onSome (getElem? (s .cells) k) (stay j)
       (λ c. turn (gets j r (c .content .value) (acted A (j .history) (c .content) .history)) keep))
 
   -- "lower Q: blocked if Q is above the job's label; else the label is Q, appended to the job's history."
-  unfoldable pub lowering : Job H → Label → Turn H
-  lowering j q =
+  unfoldable pub lowerStep : Job H → Label → Turn H
+  lowerStep j q =
       given (reaches (j .label) q)
       (turn
       (record { block = j .block; position = suc (j .position); label = q; registers = j .registers; history = join (j .history) (one q) })
@@ -91,13 +91,13 @@ module _ (A : Histories) where
     turnOf (Put r n) = giving j r (Plain n)
     turnOf (Name r k) = giving j r (CellName k)
     turnOf (Code r b) = giving j r (CodeName b)
-    turnOf (Add r a b) = adding j r (register j a) (register j b)
+    turnOf (Add r a b) = addStep j r (register j a) (register j b)
     -- "r gets its name with the job's history"
     turnOf (New r i a) =
-        turn (gets j r (CellName (length (s .cells))) (j .history)) (making A size s (j .label) (j .history) i (register j a))
-    turnOf (Read r w) = reading s j r w
-    turnOf (Write w a) = through j w (λ k. writing A s (j .label) (j .history) k (register j a))
-    turnOf (Relabel w o) = through j w (λ k. relabelling A s (j .label) (j .history) k o)
-    turnOf (Lower q) = lowering j q
-    turnOf (Start b) = turn (moved j) (starting A size s (j .label) (j .history) b)
-    turnOf (Exec w) = through j w (executing A size s (j .label) (j .history))
+        turn (gets j r (CellName (length (s .cells))) (j .history)) (newAct A size s (j .label) (j .history) i (register j a))
+    turnOf (Read r w) = readStep s j r w
+    turnOf (Write w a) = through j w (λ k. writeAct A s (j .label) (j .history) k (register j a))
+    turnOf (Relabel w o) = through j w (λ k. relabelAct A s (j .label) (j .history) k o)
+    turnOf (Lower q) = lowerStep j q
+    turnOf (Start b) = turn (moved j) (startAct A size s (j .label) (j .history) b)
+    turnOf (Exec w) = through j w (execAct A size s (j .label) (j .history))

@@ -17,7 +17,7 @@ use Rattle.machine.specs.declared.Event.{Event}
 use Rattle.machine.specs.declared.Event.the-variants.{StepOf, WriteBy, RelabelBy, NewBy, ExecBy, StartBy}
 use Rattle.machine.specs.Histories.{sources}
 use Rattle.machine.specs.States.{State}
-use Rattle.machine.specs.Acts.{Effect, blocked, writing, relabelling, making, starting, executing}
+use Rattle.machine.specs.Acts.{Effect, blocked, writeAct, relabelAct, newAct, startAct, execAct}
 use Rattle.machine.specs.Events.{tableSize, isLabel, brought}
 
 -- "a shape that is no cell shape or has trust above C"
@@ -61,8 +61,8 @@ aimedAt (StartBy q b) = 0
 -- a step is not an outsider's
 unfoldable pub outside : State Label → Event → Effect Label
 outside s (StepOf i) = blocked
-outside s (WriteBy q k v n) = writing sources s q q k (brought sources q v n)
-outside s (RelabelBy q k o) = relabelling sources s q q k o
-outside s (NewBy q i v n) = making sources tableSize s q q i (brought sources q v n)
-outside s (ExecBy q k) = executing sources tableSize s q q k
-outside s (StartBy q b) = starting sources tableSize s q q b
+outside s (WriteBy q k v n) = writeAct sources s q q k (brought sources q v n)
+outside s (RelabelBy q k o) = relabelAct sources s q q k o
+outside s (NewBy q i v n) = newAct sources tableSize s q q i (brought sources q v n)
+outside s (ExecBy q k) = execAct sources tableSize s q q k
+outside s (StartBy q b) = startAct sources tableSize s q q b

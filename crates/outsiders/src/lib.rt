@@ -1,5 +1,5 @@
 // An outsider's event.
-use acts::Effect;
+use acts::Act;
 use acts::Near;
 use acts::Stored;
 use book::kind;
@@ -138,11 +138,11 @@ fn bring(q: Label, kind: u8, number: u32) -> Stored
 }
 
 // What an outsider's event does.
-pub fn act_outside(e: Event, near: Near) -> Effect
+pub fn act_outside(e: Event, near: Near) -> Act
     ensures { λ x. ⌜ effectOf (aimedAt e) x ≡ outside (nearby near) e ⌝ }
 {
     match e {
-        Event::StepOf(_) => Effect::Blocked,
+        Event::StepOf(_) => Act::Blocked,
         Event::WriteBy(q, k, v, n) => {
             let x = bring(q, v, n);
             acts::write_cell(q, q, near, k as u32, x)

@@ -2,7 +2,7 @@
 use book::Refusal;
 use console::number;
 use console::put;
-use interpreter::Ran;
+use interpreter::RunResult;
 
 fn field(name: &[u8], table: &[u8], at: usize) {
     put(name);
@@ -109,7 +109,7 @@ fn refused(n: u8, place: usize) {
     put(b"\n");
 }
 
-pub fn outcome(list: &[u8], ran: Ran, held: &[u8], begun: &[u8], answered: &[u8]) {
+pub fn outcome(list: &[u8], ran: RunResult, held: &[u8], begun: &[u8], answered: &[u8]) {
     let refusal = ran.refusal;
     match refusal {
         Refusal::Refused { number, place } => refused(number, place),

@@ -1,9 +1,9 @@
 // The run of a book: refusals, then the events, then the lent tables.
-use acts::Cell;
-use acts::Job;
+use acts::StoredCell;
+use acts::StoredJob;
 use book::Outline;
 use book::Refusal;
-use interpreter::Ran;
+use interpreter::RunResult;
 use labels::Label;
 ghost use mathlib.Core.Path.{_≡_};
 ghost use Prim.Native.Nat.{_≤_};
@@ -15,13 +15,13 @@ ghost use Rattle.running.specs.Runnable.{Runnable};
 fn refuse_memory(count: usize, cells: usize, jobs: usize, room: usize) -> Refusal
     ensures { λ r. ⌜ r ≡ memoryRefusal count cells jobs room ⌝ }
 {
-    if cells != Cell::TABLE_BYTES {
+    if cells != StoredCell::TABLE_BYTES {
         return Refusal::Refused {
             number: 10,
             place: 0,
         };
     }
-    if jobs != Job::TABLE_BYTES {
+    if jobs != StoredJob::TABLE_BYTES {
         return Refusal::Refused {
             number: 10,
             place: 0,
@@ -70,7 +70,7 @@ fn finish(
     cells: &mut [u8],
     jobs: &mut [u8],
     answers: &mut [u8],
-) -> Ran
+) -> RunResult
     requires { ⌜ Runnable (now book) t (now list) (now cells) (now jobs) (now answers) ⌝ }
     ensures { λ r. ⌜ runBy r (now (cells .exit)) (now (jobs .exit)) (now (answers .exit)) ≡ ranOf Passed (now (book .entry)) (now (list .entry)) (now (cells .entry)) (now (jobs .entry)) (now (answers .entry)) ⌝ }
     ensures { λ r. ⌜ (r .cells ≤ 64) × (r .jobs ≤ 64) ⌝ }
@@ -98,7 +98,13 @@ fn finish(
 
 // Runs the events of a list on a book. Refused by 1 to 6 and 9 to 11, and then nothing is written; else the answers, and the tables of cells
 // and jobs, unused entries zero, answers beyond the events kept.
-pub fn run(book: &[u8], list: &[u8], cells: &mut [u8], jobs: &mut [u8], answers: &mut [u8]) -> Ran
+pub fn run(
+    book: &[u8],
+    list: &[u8],
+    cells: &mut [u8],
+    jobs: &mut [u8],
+    answers: &mut [u8],
+) -> RunResult
     ensures { λ r. ⌜ runBy r (now (cells .exit)) (now (jobs .exit)) (now (answers .exit)) ≡ ran (now (book .entry)) (now (list .entry)) (now (cells .entry)) (now (jobs .entry)) (now (answers .entry)) ⌝ }
     ensures { λ r. ⌜ (r .cells ≤ 64) × (r .jobs ≤ 64) ⌝ }
 {
@@ -115,7 +121,7 @@ pub fn run(book: &[u8], list: &[u8], cells: &mut [u8], jobs: &mut [u8], answers:
         answers.len(),
     );
     match refusal {
-        Refusal::Refused { number, place } => Ran {
+        Refusal::Refused { number, place } => RunResult {
             refusal: Refusal::Refused {
                 number: number,
                 place: place,

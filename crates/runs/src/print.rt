@@ -4,7 +4,7 @@ use book::Refusal;
 use console::number;
 use console::put;
 use console::refused;
-use interpreter::Ran;
+use interpreter::RunResult;
 
 fn digit(n: u8) -> u8 {
     let d = n % 16;
@@ -66,7 +66,7 @@ fn done(list: &[u8], n: usize, m: usize, cells: &[u8], jobs: &[u8], answers: &[u
     part(b" jobs ", jobs, m * 52);
 }
 
-pub fn line(list: &[u8], ran: Ran, cells: &[u8], jobs: &[u8], answers: &[u8]) {
+pub fn line(list: &[u8], ran: RunResult, cells: &[u8], jobs: &[u8], answers: &[u8]) {
     let refusal = ran.refusal;
     match refusal {
         Refusal::Refused { number, place } => refused(number, place),

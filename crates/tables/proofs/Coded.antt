@@ -7,8 +7,8 @@ use lib.ListN.{getD}
 use Rattle.labels.specs.declared.Trust.{Trust}
 use Rattle.machine.specs.Records.{kindOf}
 use Rattle.acts.specs.declared.Stored.{Stored}
-use Rattle.acts.specs.declared.Cell.{Cell}
-use Rattle.acts.specs.Views.{valueIn, contentOf}
+use Rattle.acts.specs.declared.StoredCell.{StoredCell}
+use Rattle.acts.specs.Views.{valueIn, storedContent}
 use Rattle.tables.specs.Bytes.{valueBytes, cellBytes, storedRecord, trustedRecord}
 
 pub value-is : (v : Stored) (k : ℕ) → k ≡ kindOf (valueIn v)
@@ -16,7 +16,7 @@ pub value-is : (v : Stored) (k : ℕ) → k ≡ kindOf (valueIn v)
     ≡ valueBytes (storedRecord v)
 value-is v k e = rw e refl
 
-pub cell-is : (t : Trust) (c : Cell) (v : Stored) (b : List ℕ) → v ≡ contentOf c → b ≡ valueBytes (storedRecord v)
+pub cell-is : (t : Trust) (c : StoredCell) (v : Stored) (b : List ℕ) → v ≡ storedContent c → b ≡ valueBytes (storedRecord v)
     → c .shape ∷ t .0 ∷ c .label .0 ∷ getD b 0 0 ∷ getD b 1 0 ∷ getD b 2 0 ∷ getD b 3 0 ∷ getD b 4 0 ∷ getD b 5 0 ∷ []
     ≡ cellBytes (trustedRecord t c)
 cell-is t c v b ev e = rw (e, ev) refl

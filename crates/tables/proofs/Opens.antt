@@ -19,22 +19,22 @@ use Rattle.book.specs.Book.{declaredAt}
 use Rattle.book.specs.Stretch.{cellFound}
 use Rattle.book.specs.Asked.{Listed}
 use Rattle.machine.specs.Records.{kindOf, numberOf}
-use Rattle.acts.specs.declared.Cell.{Cell}
+use Rattle.acts.specs.declared.StoredCell.{StoredCell}
 use Rattle.tables.specs.Opening.{startIn, openedBy, openedCells}
 
 -- i cells are open
-pub record Filling (b os : List ℕ) (cells : List Cell) (i : ℕ) : Type 0 where
+pub record Filling (b os : List ℕ) (cells : List StoredCell) (i : ℕ) : Type 0 where
   pub front : take i cells ≡ openedCells b (take i os)
   pub long : length cells ≡ 64
   pub fits : length os ≤ 64
   pub listed : Listed b os
   pub inside : i ≤ length os
 
-pub fill-start : (b os : List ℕ) (none : Cell) → Listed b os → length os ≤ 64 → Filling b os (replicate 64 none) 0
+pub fill-start : (b os : List ℕ) (none : StoredCell) → Listed b os → length os ≤ 64 → Filling b os (replicate 64 none) 0
 unfolding openedCells
 fill-start b os none l f = record { front = refl; long = refl; fits = f; listed = l; inside = omega arith }
 
-module _ (b os : List ℕ) (cells : List Cell) (i : ℕ) (w : Filling b os cells i) where
+module _ (b os : List ℕ) (cells : List StoredCell) (i : ℕ) (w : Filling b os cells i) where
   pub fill-room : i < length os → i < 64
   fill-room h = omega (arith, w .fits)
 
@@ -53,7 +53,7 @@ module _ (b os : List ℕ) (cells : List Cell) (i : ℕ) (w : Filling b os cells
         let z : _≡_ {A = ℕ} 0 1 = cc in
         absurd (omega arith)
 
-    pub fill-next : (d : Declared) (c : Cell) → x ≡ CellThere d → c ≡ openedBy d → Filling b os (set cells i c) (i + 1)
+    pub fill-next : (d : Declared) (c : StoredCell) → x ≡ CellThere d → c ≡ openedBy d → Filling b os (set cells i c) (i + 1)
     unfolding openedCells
     fill-next d c e ec =
         let y : CellThere d ≡ CellThere (declaredAt b o) = sym e ∙ found in
@@ -75,7 +75,7 @@ pub ruleset fills = (fill-start, fill-room, fill-end, fill-none, fill-next)
 
 -- for the code: the value v of a declared cell, by its kind
 pub opened-is : (d : Declared) (v : Value) (k n : ℕ) → v ≡ d .value → k ≡ kindOf v → n ≡ numberOf v
-    → _≡_ {A = Cell} (record { number = n; kind = k; source = label 15; shape = d .shape; label = d .label }) (openedBy d)
+    → _≡_ {A = StoredCell} (record { number = n; kind = k; source = label 15; shape = d .shape; label = d .label }) (openedBy d)
 opened-is d v k n ev ek en = rw (ek, en, ev) refl
 
 module _ (starts : List ℕ) (x end : ℕ) where

@@ -13,8 +13,8 @@ use lib.Seq.{length-take-le}
 use Rattle.book.specs.declared.Shape.{Shape}
 use Rattle.book.specs.Outline.{shapeIn}
 use Rattle.acts.specs.declared.Stored.{Stored}
-use Rattle.acts.specs.declared.Cell.{Cell}
-use Rattle.acts.specs.declared.Job.{Job}
+use Rattle.acts.specs.declared.StoredCell.{StoredCell}
+use Rattle.acts.specs.declared.StoredJob.{StoredJob}
 use Rattle.tables.specs.Bytes.{valueBytes, cellBytes, jobBytes, packed, storedRecord, trustedRecord, cellRecordIn, jobRecordOf, cellTable, jobTable, savedCells, savedJobs}
 use Rattle.tables.specs.Asked.{put, cleared, Narrow, NarrowJobs, Saved}
 use Rattle.tables.proofs.Filling.{Filled, filled-start, filled-on, filled-whole, Saving, saving-start, saving-on, saving-end}
@@ -55,7 +55,7 @@ module _ (d : List ℕ) (registers : List Stored) (out : List ℕ) (i : ℕ) (s 
             (filled-on storedRecord valueBytes 6 (take 4 d) registers d out i (s .filled) z b (4 + i * 6) eb (omega (arith, s .eight)) (ap length eb) (omega arith));
       }
 
-  pub registers-end : (j : Job) → 8 ≤ i → registers ≡ j .registers
+  pub registers-end : (j : StoredJob) → 8 ≤ i → registers ≡ j .registers
       → take 4 d ≡ j .block ∷ j .position ∷ j .label .0 ∷ j .source .0 ∷ [] → out ≡ jobBytes (jobRecordOf j)
   registers-end j h e q =
       let l : length (take 4 d) ≡ 4 = length-take-le 4 d (omega (arith, s .was)) in
@@ -65,15 +65,15 @@ module _ (d : List ℕ) (registers : List Stored) (out : List ℕ) (i : ℕ) (s 
 
 pub ruleset register-saves = (registers-start, registers-on, registers-end)
 
-pub record CellsIn (table : List ℕ) (cells : List Cell) (n : ℕ) (out : List ℕ) (i : ℕ) : Type 0 where
+pub record CellsIn (table : List ℕ) (cells : List StoredCell) (n : ℕ) (out : List ℕ) (i : ℕ) : Type 0 where
   pub saving : Saving (cellRecordIn table) cellBytes 9 576 cells n out i
 
-module _ (table : List ℕ) (cells : List Cell) (n : ℕ) (out : List ℕ) where
+module _ (table : List ℕ) (cells : List StoredCell) (n : ℕ) (out : List ℕ) where
   pub cells-start : n ≤ 64 → length cells ≡ 64 → length out ≡ 576 → CellsIn table cells n out 0
   cells-start h e g = record { saving = saving-start (cellRecordIn table) cellBytes 9 576 cells n out (omega arith) (omega arith) g }
 
   module _ (i : ℕ) (s : CellsIn table cells n out i) where
-    pub cells-on : (z : Cell) (x : Shape) (b new : List ℕ) → i < n → x ≡ shapeIn table (getD cells i z .shape)
+    pub cells-on : (z : StoredCell) (x : Shape) (b new : List ℕ) → i < n → x ≡ shapeIn table (getD cells i z .shape)
         → b ≡ cellBytes (trustedRecord (x .trust) (getD cells i z)) → new ≡ put out (i * 9) b → length new ≡ length out
         → CellsIn table cells n new (i + 1)
     cells-on z x b new h ex eb e g =
@@ -87,28 +87,28 @@ module _ (table : List ℕ) (cells : List Cell) (n : ℕ) (out : List ℕ) where
 pub ruleset cell-saves = (cells-start, cells-on, cells-end)
 
 -- its bytes are put where they belong
-pub job-saved : (j : Job) (i : ℕ) (before after b : List ℕ) → b ≡ jobBytes (jobRecordOf j) → length b ≡ 52 → after ≡ put before (i * 52) b
+pub job-saved : (j : StoredJob) (i : ℕ) (before after b : List ℕ) → b ≡ jobBytes (jobRecordOf j) → length b ≡ 52 → after ≡ put before (i * 52) b
     → Saved j i before after
 job-saved j i before after b eb l e = record { is = rw eb at e; long = rw eb at l }
 
-pub record JobsIn (jobs : List Job) (n : ℕ) (out : List ℕ) (i : ℕ) : Type 0 where
+pub record JobsIn (jobs : List StoredJob) (n : ℕ) (out : List ℕ) (i : ℕ) : Type 0 where
   pub saving : Saving jobRecordOf jobBytes 52 3328 jobs n out i
   pub narrow : NarrowJobs jobs n
   pub few : length jobs ≡ 64
 
-module _ (jobs : List Job) (n : ℕ) (out : List ℕ) where
+module _ (jobs : List StoredJob) (n : ℕ) (out : List ℕ) where
   pub jobs-start : n ≤ 64 → length jobs ≡ 64 → length out ≡ 3328 → NarrowJobs jobs n → JobsIn jobs n out 0
   jobs-start h e g k = record { saving = saving-start jobRecordOf jobBytes 52 3328 jobs n out (omega arith) (omega arith) g; narrow = k; few = e }
 
   module _ (i : ℕ) (s : JobsIn jobs n out i) where
-    pub jobs-narrow : (z : Job) → i < n → Narrow (getD jobs i z)
+    pub jobs-narrow : (z : StoredJob) → i < n → Narrow (getD jobs i z)
     jobs-narrow z h = s .narrow .each i z h
 
     -- an entry inside the table
     pub jobs-room : i < n → (i < 64) × (length out ≡ 3328)
     jobs-room h = (omega (arith, s .saving .room, s .few), s .saving .long)
 
-    pub jobs-on : (z : Job) (new : List ℕ) → i < n → Saved (getD jobs i z) i out new → length new ≡ length out → JobsIn jobs n new (i + 1)
+    pub jobs-on : (z : StoredJob) (new : List ℕ) → i < n → Saved (getD jobs i z) i out new → length new ≡ length out → JobsIn jobs n new (i + 1)
     jobs-on z new h e g =
         record {
           saving = saving-on jobRecordOf jobBytes 52 3328 jobs n out i (s .saving) z (jobBytes (jobRecordOf (getD jobs i z))) new h refl (e .long) (e .is) g;

@@ -8,7 +8,7 @@ use Prim.Native.Nat.{ℕ, _+_, _*_, _-_, _<_}
 use mathlib.Core.Path.{_≡_}
 use mathlib.Core.List.{List, _++_}
 use lib.ListN.{length, take, drop, replicate, getD}
-use Rattle.acts.specs.declared.Job.{Job}
+use Rattle.acts.specs.declared.StoredJob.{StoredJob}
 use Rattle.tables.specs.Bytes.{jobBytes, jobRecordOf, jobSize}
 
 abbrev pub put : List ℕ → ℕ → List ℕ → List ℕ
@@ -17,13 +17,13 @@ put d at s = take at d ++ s ++ drop (at + length s) d
 abbrev pub cleared : List ℕ → ℕ → List ℕ
 cleared d at = take at d ++ replicate (length d - at) 0
 
-pub record Narrow (j : Job) : Type 0 where
+pub record Narrow (j : StoredJob) : Type 0 where
   pub block : j .block < 256
   pub position : j .position < 256
 
-pub record NarrowJobs (jobs : List Job) (m : ℕ) : Type 0 where
-  pub each : (i : ℕ) (d : Job) → i < m → Narrow (getD jobs i d)
+pub record NarrowJobs (jobs : List StoredJob) (m : ℕ) : Type 0 where
+  pub each : (i : ℕ) (d : StoredJob) → i < m → Narrow (getD jobs i d)
 
-pub record Saved (j : Job) (i : ℕ) (before after : List ℕ) : Type 0 where
+pub record Saved (j : StoredJob) (i : ℕ) (before after : List ℕ) : Type 0 where
   pub is : after ≡ put before (i * jobSize) (jobBytes (jobRecordOf j))
   pub long : length (jobBytes (jobRecordOf j)) ≡ jobSize

@@ -12,9 +12,9 @@ use Rattle.book.specs.Outline.{pad, shapeIn}
 use Rattle.machine.specs.Events.{tableSize}
 use Rattle.machine.specs.Records.{kindOf, ValueRecord, CellRecord, JobRecord}
 use Rattle.acts.specs.declared.Stored.{Stored}
-use Rattle.acts.specs.declared.Cell.{Cell}
-use Rattle.acts.specs.declared.Job.{Job}
-use Rattle.acts.specs.Views.{valueIn, contentOf}
+use Rattle.acts.specs.declared.StoredCell.{StoredCell}
+use Rattle.acts.specs.declared.StoredJob.{StoredJob}
+use Rattle.acts.specs.Views.{valueIn, storedContent}
 
 -- "a number is 4 bytes, little-endian"
 abbrev pub numberBytes : ℕ → List ℕ
@@ -63,20 +63,20 @@ jobTable jobs = pad jobTableSize 0 (packed jobBytes jobs)
 abbrev pub storedRecord : Stored → ValueRecord
 storedRecord v = record { kind = kindOf (valueIn v); number = v .number; source = v .source }
 
-abbrev pub trustedRecord : Trust → Cell → CellRecord
-trustedRecord t c = record { shape = c .shape; trust = t; label = c .label; value = storedRecord (contentOf c) }
+abbrev pub trustedRecord : Trust → StoredCell → CellRecord
+trustedRecord t c = record { shape = c .shape; trust = t; label = c .label; value = storedRecord (storedContent c) }
 
 -- the trust "fixed by its shape", by the table of shapes
-abbrev pub cellRecordIn : List ℕ → Cell → CellRecord
+abbrev pub cellRecordIn : List ℕ → StoredCell → CellRecord
 cellRecordIn table c = trustedRecord (shapeIn table (c .shape) .trust) c
 
-abbrev pub jobRecordOf : Job → JobRecord
+abbrev pub jobRecordOf : StoredJob → JobRecord
 jobRecordOf j =
     record { block = j .block; position = j .position; label = j .label; registers = map storedRecord (j .registers); source = j .source }
 
 -- the tables of the cells and jobs in use
-unfoldable pub savedCells : List ℕ → List Cell → List ℕ
+unfoldable pub savedCells : List ℕ → List StoredCell → List ℕ
 savedCells table cells = cellTable (map (cellRecordIn table) cells)
 
-unfoldable pub savedJobs : List Job → List ℕ
+unfoldable pub savedJobs : List StoredJob → List ℕ
 savedJobs jobs = jobTable (map jobRecordOf jobs)

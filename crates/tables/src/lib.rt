@@ -1,9 +1,9 @@
 // The records of a run: what it starts from, and saved as bytes into the lent tables.
 mod opening;
 
-use acts::Cell;
-use acts::Job;
 use acts::Stored;
+use acts::StoredCell;
+use acts::StoredJob;
 use labels::Trust;
 ghost use mathlib.Core.Path.{_≡_};
 ghost use Prim.Native.Nat.{_+_, _≤_, _<_};
@@ -50,7 +50,7 @@ fn value_bytes(v: Stored) -> [u8; 6]
 }
 
 // Shape, trust, label, value.
-fn cell_bytes(c: Cell, trust: Trust) -> [u8; Cell::BYTES]
+fn cell_bytes(c: StoredCell, trust: Trust) -> [u8; StoredCell::BYTES]
     ensures { λ r. ⌜ r ≡ cellBytes (trustedRecord trust c) ⌝ }
 {
     let content = acts::content_of(c);
@@ -69,11 +69,11 @@ fn cell_bytes(c: Cell, trust: Trust) -> [u8; Cell::BYTES]
 }
 
 // Block, position, label, source, registers.
-fn job_bytes(j: Job) -> [u8; Job::BYTES]
+fn job_bytes(j: StoredJob) -> [u8; StoredJob::BYTES]
     requires { ⌜ Narrow j ⌝ }
     ensures { λ r. ⌜ r ≡ jobBytes (jobRecordOf j) ⌝ }
 {
-    let mut out = [0u8; Job::BYTES];
+    let mut out = [0u8; StoredJob::BYTES];
     out[0] = j.block as u8;
     out[1] = j.position as u8;
     out[2] = j.label.0;
@@ -90,7 +90,12 @@ fn job_bytes(j: Job) -> [u8; Job::BYTES]
 }
 
 // The first n cells as a table; their trusts are those of the table of shapes.
-pub fn save_cells(cells: [Cell; Job::TABLE_SIZE], n: usize, shapes: &[u8], out: &mut [u8])
+pub fn save_cells(
+    cells: [StoredCell; StoredJob::TABLE_SIZE],
+    n: usize,
+    shapes: &[u8],
+    out: &mut [u8],
+)
     requires { ⌜ (n ≤ 64) × (length (now out) ≡ 576) ⌝ }
     ensures { λ _. ⌜ now (out .exit) ≡ savedCells (now (shapes .entry)) (take n cells) ⌝ }
 {
@@ -99,17 +104,17 @@ pub fn save_cells(cells: [Cell; Job::TABLE_SIZE], n: usize, shapes: &[u8], out: 
         let c = cells[i];
         let shape = decode::shape_in(shapes, c.shape);
         let b = cell_bytes(c, shape.trust);
-        copy_in(out, i * Cell::BYTES, &b);
+        copy_in(out, i * StoredCell::BYTES, &b);
         i = i + 1;
     }
-    clear_from(out, n * Cell::BYTES);
+    clear_from(out, n * StoredCell::BYTES);
 }
 
 // A job as entry i of a table. The run saves its jobs one by one: handed over together they would be copied.
-pub fn save_job(j: Job, i: usize, out: &mut [u8])
+pub fn save_job(j: StoredJob, i: usize, out: &mut [u8])
     requires { ⌜ Narrow j × (i < 64) × (length (now out) ≡ 3328) ⌝ }
     ensures { λ _. ⌜ Saved j i (now (out .entry)) (now (out .exit)) ⌝ }
 {
     let b = job_bytes(j);
-    copy_in(out, i * Job::BYTES, &b);
+    copy_in(out, i * StoredJob::BYTES, &b);
 }

@@ -1,6 +1,6 @@
 // What a run starts from: the declared cells, and where a block starts.
-use acts::Cell;
-use acts::Job;
+use acts::StoredCell;
+use acts::StoredJob;
 use book::CellAt;
 use book::Declared;
 use book::Value;
@@ -34,14 +34,14 @@ fn number_in(v: Value) -> u32
 }
 
 // A declared cell: its value's history is 15.
-fn open_cell(d: Declared) -> Cell
+fn open_cell(d: Declared) -> StoredCell
     ensures { λ x. ⌜ x ≡ openedBy d ⌝ }
 {
     let label = d.label;
     let value = d.value;
     let kind = kind_in(value);
     let number = number_in(value);
-    Cell {
+    StoredCell {
         number: number,
         kind: kind,
         source: Label::TOP,
@@ -51,18 +51,18 @@ fn open_cell(d: Declared) -> Cell
 }
 
 // The declared cells, from their offsets.
-pub fn open_cells(book: &[u8], offsets: &[u16]) -> [Cell; Job::TABLE_SIZE]
+pub fn open_cells(book: &[u8], offsets: &[u16]) -> [StoredCell; StoredJob::TABLE_SIZE]
     requires { ⌜ Listed (now book) (now offsets) × (length (now offsets) ≤ 64) ⌝ }
     ensures { λ r. ⌜ take (length (now (offsets .entry))) r ≡ openedCells (now (book .entry)) (now (offsets .entry)) ⌝ }
 {
-    let none = Cell {
+    let none = StoredCell {
         number: 0,
         kind: 0,
         source: Label(0),
         shape: 0,
         label: Label(0),
     };
-    let mut cells = [none; Job::TABLE_SIZE];
+    let mut cells = [none; StoredJob::TABLE_SIZE];
     let mut i: usize = 0;
     while i < offsets.len() {
         let o = records::offset_of(offsets[i]);

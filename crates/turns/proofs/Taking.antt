@@ -20,15 +20,15 @@ use Rattle.machine.specs.Control.{given}
 use Rattle.machine.specs.Histories.{sources}
 use Rattle.machine.specs.States.{Traced, State}
 use Rattle.machine.specs.States as States
-use Rattle.machine.specs.Acts.{keep, acted, writing, relabelling, making, starting, executing}
+use Rattle.machine.specs.Acts.{keep, acted, writeAct, relabelAct, newAct, startAct, execAct}
 use Rattle.machine.specs.Acts as Acts
-use Rattle.machine.specs.Steps.{Turn, sum, register, turn, stay, moved, gets, adding, reading, lowering, through, turnOf}
+use Rattle.machine.specs.Steps.{Turn, sum, register, turn, stay, moved, gets, addStep, readStep, lowerStep, through, turnOf}
 use Rattle.machine.specs.Events.{tableSize}
 use Rattle.acts.specs.declared.Stored.{Stored}
 use Rattle.acts.specs.declared.Near.{Near}
-use Rattle.acts.specs.declared.Effect.{Effect}
-use Rattle.acts.specs.declared.Effect.the-variants.{Blocked, Give, Lower}
-use Rattle.acts.specs.Views.{valueIn, storedOf, contentOf, cellOf, actor, registerIn, nearby, effectOf, jobAfter, turnTaken, kept, settled}
+use Rattle.acts.specs.declared.Act.{Act}
+use Rattle.acts.specs.declared.Act.the-variants.{Blocked, Give, Lower}
+use Rattle.acts.specs.Views.{valueIn, storedOf, storedContent, cellOf, actor, registerIn, nearby, effectOf, jobAfter, turnTaken, kept, settled}
 use Rattle.acts.specs.Views.{sortOf, waits, acts, Does, Makes, giveSort, lowerSort, storeSort, createSort, launchSort}
 use Rattle.turns.specs.Turns.{numberIn, targetBy, Takes}
 use Rattle.machine.proofs.Named.{number-is}
@@ -62,17 +62,17 @@ module _ (l h : Label) (rs : List Stored) (y : Near) where
 
   module _ (r a b : ℕ) (u v : Stored) (eu : storedOf u ≡ registerIn h rs a) (ev : storedOf v ≡ registerIn h rs b) where
     adding-is : (m i : ℕ) → turnOf sources tableSize (nearby y) (actor l h rs m i) (Add r a b)
-        ≡ adding sources (actor l h rs m i) r (storedOf u) (storedOf v)
+        ≡ addStep sources (actor l h rs m i) r (storedOf u) (storedOf v)
     unfolding turnOf
     adding-is m i = rw (eu, ev) refl
 
     pub add-first : (u .kind ≡ 0 → ⊥) → Takes giveSort (nearby y) (Add r a b) l h rs Blocked
-    unfolding adding
+    unfolding addStep
     add-first n = blocked-is (λ m i. adding-is m i ∙ not-plain (stay sources (actor l h rs m i)) _ (u .number) (u .kind) n)
 
     module _ (e : u .kind ≡ 0) where
       pub add-second : (v .kind ≡ 0 → ⊥) → Takes giveSort (nearby y) (Add r a b) l h rs Blocked
-      unfolding adding
+      unfolding addStep
       add-second n =
           blocked-is
           (λ m i. adding-is m i ∙ is-plain (stay sources (actor l h rs m i)) _ (u .number) (u .kind) e
@@ -80,29 +80,29 @@ module _ (l h : Label) (rs : List Stored) (y : Near) where
 
       pub add-both : (z : ℕ) (s t : Label) → v .kind ≡ 0 → z ≡ sum (u .number) (v .number) → s ≡ lower (u .source) (v .source) → t ≡ lower s h
           → Takes giveSort (nearby y) (Add r a b) l h rs (Give r (record { number = z; kind = 0; source = t }))
-      unfolding adding valueOf
+      unfolding addStep valueOf
       add-both z s t n ez es et =
           give-is
           (λ m i. adding-is m i ∙ is-plain (stay sources (actor l h rs m i)) _ (u .number) (u .kind) e
           ∙ is-plain (stay sources (actor l h rs m i)) _ (v .number) (v .kind) n
           ∙ rw (et, es, ez) refl)
 
-  pub new-is : (r i a : ℕ) (v : Stored) (x : Effect) → storedOf v ≡ registerIn h rs a
-      → Makes (nearby y) r (making sources tableSize (nearby y) l h i (storedOf v)) x → Takes createSort (nearby y) (New r i a) l h rs x
+  pub new-is : (r i a : ℕ) (v : Stored) (x : Act) → storedOf v ≡ registerIn h rs a
+      → Makes (nearby y) r (newAct sources tableSize (nearby y) l h i (storedOf v)) x → Takes createSort (nearby y) (New r i a) l h rs x
   unfolding turnOf targetBy
   new-is r i a v x ev d = record { takes = λ b n. d .does (actor l h rs b n) ∙ rw ev refl; only = d .only }
 
-  pub start-is : (b : ℕ) (x : Effect) → Does launchSort (nearby y) 0 (starting sources tableSize (nearby y) l h b) x → Takes launchSort (nearby y) (Start b) l h rs x
+  pub start-is : (b : ℕ) (x : Act) → Does launchSort (nearby y) 0 (startAct sources tableSize (nearby y) l h b) x → Takes launchSort (nearby y) (Start b) l h rs x
   unfolding turnOf targetBy
   start-is b x d = record { takes = λ m i. d .does (actor l h rs m i); only = d .only }
 
   module _ (q : Label) (b : Bool) (eb : b ≡ reaches l q) where
     pub lower-not : b ≡ false → Takes lowerSort (nearby y) (Step.Lower q) l h rs Blocked
-    unfolding turnOf lowering given
+    unfolding turnOf lowerStep given
     lower-not f = blocked-is (λ m i. simp (← eb, f))
 
     pub lower-done : (s : Label) → b ≡ true → s ≡ lower h q → Takes lowerSort (nearby y) (Step.Lower q) l h rs (Lower q s)
-    unfolding turnOf lowering given effectOf jobAfter kept sortOf
+    unfolding turnOf lowerStep given effectOf jobAfter kept sortOf
     lower-done s f es = record { takes = λ m i. simp (← eb, f, es); only = acts refl }
 
   -- u is register w
@@ -115,20 +115,20 @@ module _ (l h : Label) (rs : List Stored) (y : Near) where
       found b i c = turn sources (gets sources (actor l h rs b i) r (c .content .value) (acted sources h (c .content) .history)) keep
 
       pub read-no : (u .kind ≡ 1 → ⊥) → Takes giveSort (nearby y) (Read r w) l h rs Blocked
-      unfolding turnOf reading
+      unfolding turnOf readStep
       read-no n = blocked-is (λ b i. rw (← value-is) (not-cell (stay sources (actor l h rs b i)) _ (u .number) (u .kind) n))
 
       module _ (e : u .kind ≡ 1) where
         pub read-none : y .cells ≤ u .number → Takes giveSort (nearby y) (Read r w) l h rs Blocked
-        unfolding turnOf reading onSome
+        unfolding turnOf readStep onSome
         read-none n =
             blocked-is
             (λ b i. rw (← value-is)
             (is-cell (stay sources (actor l h rs b i)) _ (u .number) (u .kind) e ∙ simp (same-none (cellOf (y .cell)) (y .cells) (u .number) n)))
 
-        pub read-done : (v t : Stored) → u .number < y .cells → v ≡ contentOf (y .cell) → storedOf t ≡ acted sources h (storedOf v)
+        pub read-done : (v t : Stored) → u .number < y .cells → v ≡ storedContent (y .cell) → storedOf t ≡ acted sources h (storedOf v)
             → Takes giveSort (nearby y) (Read r w) l h rs (Give r t)
-        unfolding turnOf reading onSome
+        unfolding turnOf readStep onSome
         read-done v t n ev et =
             give-is
             (λ b i.
@@ -144,7 +144,7 @@ module _ (l h : Label) (rs : List Stored) (y : Near) where
       no-cell : (u .kind ≡ 1 → ⊥) → through sources (actor l h rs b i) w act ≡ stay sources (actor l h rs b i)
       no-cell n = rw (← value-is) (not-cell (stay sources (actor l h rs b i)) _ (u .number) (u .kind) n)
 
-      one-cell : (n : ℕ) (x : Effect) → u .kind ≡ 1 → Does n (nearby y) (u .number) (act (u .number)) x
+      one-cell : (n : ℕ) (x : Act) → u .kind ≡ 1 → Does n (nearby y) (u .number) (act (u .number)) x
           → turnTaken (nearby y) (actor l h rs b i) (numberIn (actor l h rs b i) w) x
           ≡ settled (actor l h rs b i) (through sources (actor l h rs b i) w act)
       one-cell n x e d =
@@ -156,45 +156,45 @@ module _ (l h : Label) (rs : List Stored) (y : Near) where
     module _ (a : ℕ) where
       pub write-no : (u .kind ≡ 1 → ⊥) → Takes storeSort (nearby y) (Write w a) l h rs Blocked
       unfolding turnOf
-      write-no n = blocked-is (λ b i. no-cell b i (λ k. writing sources (nearby y) l h k (registerIn h rs a)) n)
+      write-no n = blocked-is (λ b i. no-cell b i (λ k. writeAct sources (nearby y) l h k (registerIn h rs a)) n)
 
       pub write-shut : (o : Bool) → u .kind ≡ 1 → o ≡ both (ltb (u .number) (y .cells)) (reaches l (y .cell .label)) → o ≡ false
           → Takes storeSort (nearby y) (Write w a) l h rs Blocked
       unfolding turnOf targetBy sortOf
       write-shut o e eo f =
           record {
-            takes = λ b i. one-cell b i (λ k. writing sources (nearby y) l h k (registerIn h rs a)) storeSort Blocked e
+            takes = λ b i. one-cell b i (λ k. writeAct sources (nearby y) l h k (registerIn h rs a)) storeSort Blocked e
                 (write-closed l h y (u .number) o eo (registerIn h rs a) f);
             only = waits refl;
           }
 
-      pub write-cell : (x : Effect) (v : Stored) → u .kind ≡ 1 → storedOf v ≡ registerIn h rs a
-          → Does storeSort (nearby y) (u .number) (writing sources (nearby y) l h (u .number) (storedOf v)) x → Takes storeSort (nearby y) (Write w a) l h rs x
+      pub write-cell : (x : Act) (v : Stored) → u .kind ≡ 1 → storedOf v ≡ registerIn h rs a
+          → Does storeSort (nearby y) (u .number) (writeAct sources (nearby y) l h (u .number) (storedOf v)) x → Takes storeSort (nearby y) (Write w a) l h rs x
       unfolding turnOf targetBy
       write-cell x v e ev d =
-          record { takes = λ b i. one-cell b i (λ k. writing sources (nearby y) l h k (registerIn h rs a)) storeSort x e (rw ev at d); only = d .only }
+          record { takes = λ b i. one-cell b i (λ k. writeAct sources (nearby y) l h k (registerIn h rs a)) storeSort x e (rw ev at d); only = d .only }
 
     module _ (o : Label) where
       pub relabel-no : (u .kind ≡ 1 → ⊥) → Takes storeSort (nearby y) (Relabel w o) l h rs Blocked
       unfolding turnOf
-      relabel-no n = blocked-is (λ b i. no-cell b i (λ k. relabelling sources (nearby y) l h k o) n)
+      relabel-no n = blocked-is (λ b i. no-cell b i (λ k. relabelAct sources (nearby y) l h k o) n)
 
-      pub relabel-cell : (x : Effect) → u .kind ≡ 1 → Does storeSort (nearby y) (u .number) (relabelling sources (nearby y) l h (u .number) o) x
+      pub relabel-cell : (x : Act) → u .kind ≡ 1 → Does storeSort (nearby y) (u .number) (relabelAct sources (nearby y) l h (u .number) o) x
           → Takes storeSort (nearby y) (Relabel w o) l h rs x
       unfolding turnOf targetBy
-      relabel-cell x e d = record { takes = λ b i. one-cell b i (λ k. relabelling sources (nearby y) l h k o) storeSort x e d; only = d .only }
+      relabel-cell x e d = record { takes = λ b i. one-cell b i (λ k. relabelAct sources (nearby y) l h k o) storeSort x e d; only = d .only }
 
     pub exec-no : (u .kind ≡ 1 → ⊥) → Takes launchSort (nearby y) (Exec w) l h rs Blocked
     unfolding turnOf
-    exec-no n = blocked-is (λ b i. no-cell b i (executing sources tableSize (nearby y) l h) n)
+    exec-no n = blocked-is (λ b i. no-cell b i (execAct sources tableSize (nearby y) l h) n)
 
-    pub exec-cell : (x : Effect) → u .kind ≡ 1 → Does launchSort (nearby y) (u .number) (executing sources tableSize (nearby y) l h (u .number)) x
+    pub exec-cell : (x : Act) → u .kind ≡ 1 → Does launchSort (nearby y) (u .number) (execAct sources tableSize (nearby y) l h (u .number)) x
         → Takes launchSort (nearby y) (Exec w) l h rs x
     unfolding turnOf targetBy
-    exec-cell x e d = record { takes = λ b i. one-cell b i (executing sources tableSize (nearby y) l h) launchSort x e d; only = d .only }
+    exec-cell x e d = record { takes = λ b i. one-cell b i (execAct sources tableSize (nearby y) l h) launchSort x e d; only = d .only }
 
 -- the code told the step apart
-pub as-told : (n : ℕ) (s : State Label) (p q : Step) (l h : Label) (rs : List Stored) (x : Effect) → q ≡ p → Takes n s q l h rs x → Takes n s p l h rs x
+pub as-told : (n : ℕ) (s : State Label) (p q : Step) (l h : Label) (rs : List Stored) (x : Act) → q ≡ p → Takes n s q l h rs x → Takes n s p l h rs x
 as-told n s p q l h rs x e t = rw (← e) t
 
 pub ruleset adds = (add-first, add-second, add-both)

@@ -19,8 +19,8 @@ use Rattle.machine.specs.Histories.{sources}
 use Rattle.machine.specs.Acts.{zeroWith}
 use Rattle.acts.specs.declared.Stored.{Stored}
 use Rattle.acts.specs.declared.Near.{Near}
-use Rattle.acts.specs.declared.Effect.{Effect}
-use Rattle.acts.specs.declared.Effect.the-variants.{Give}
+use Rattle.acts.specs.declared.Act.{Act}
+use Rattle.acts.specs.declared.Act.the-variants.{Give}
 use Rattle.acts.specs.Views.{storedOf, registerIn, nearby, giveSort, lowerSort, storeSort, createSort, launchSort}
 use Rattle.turns.specs.Turns.{targetBy, targetIn, Takes, Gives, Changes, Launches}
 use Rattle.turns.proofs.Taking.{as-told, put-is, name-is, code-is}
@@ -142,7 +142,7 @@ module _ (s : List ℕ) (o : ℕ) (h : Label) (rs : List Stored) (x : Stored) (k
 pub ruleset targets = (target-none, target-lower, target-start, target-read, target-through)
 
 -- a step of a job at label l, with source h and registers rs; v is what it looks at, and r or x the byte behind its kind
-module _ (s : List ℕ) (o : ℕ) (l h : Label) (rs : List Stored) (v : Near) (x : Effect) (k : ℕ) (ek : k ≡ byteAt s o) where
+module _ (s : List ℕ) (o : ℕ) (l h : Label) (rs : List Stored) (v : Near) (x : Act) (k : ℕ) (ek : k ≡ byteAt s o) where
   told : (n : ℕ) (q : Step) → q ≡ stepAt s o → Takes n (nearby v) q l h rs x → Takes n (nearby v) (stepAt s o) l h rs x
   told n q e t = as-told n (nearby v) (stepAt s o) q l h rs x e t
 

@@ -20,7 +20,7 @@ use Rattle.machine.specs.Steps.{register, turnOf}
 use Rattle.machine.specs.Records.{numberOf}
 use Rattle.machine.specs.Events.{tableSize}
 use Rattle.acts.specs.declared.Stored.{Stored}
-use Rattle.acts.specs.declared.Effect.{Effect}
+use Rattle.acts.specs.declared.Act.{Act}
 use Rattle.acts.specs.Views.{actor, turnTaken, settled, Only}
 use Rattle.book.specs.Numbers.{putKind, newKind, writeKind, lowerKind, startKind}
 
@@ -55,7 +55,7 @@ reachedIn p h rs = numberOf (targetIn p h rs .value)
 
 -- x is what step p does in the state s, at the label l, with the history h and these registers, whatever the job's block b and position i; it is
 -- blocked or of sort n
-pub record Takes (n : ℕ) (s : State Label) (p : Step) (l h : Label) (rs : List Stored) (x : Effect) : Type 0 where
+pub record Takes (n : ℕ) (s : State Label) (p : Step) (l h : Label) (rs : List Stored) (x : Act) : Type 0 where
   pub takes : (b i : ℕ)
       → turnTaken s (actor l h rs b i) (reachedBy p (actor l h rs b i)) x
       ≡ settled (actor l h rs b i) (turnOf sources tableSize s (actor l h rs b i) p)

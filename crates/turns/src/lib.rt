@@ -1,5 +1,5 @@
 // A step of a job at label l, with source h and these registers. Where a step reaches a cell, u is the register that names it.
-use acts::Effect;
+use acts::Act;
 use acts::Near;
 use acts::Stored;
 use book::kind;
@@ -12,15 +12,15 @@ ghost use Rattle.book.specs.declared.Step.the-variants.{Add, New, Read, Write, 
 ghost use Rattle.book.specs.Records.{byteAt};
 ghost use Rattle.book.specs.Book.{stepAt};
 ghost use Rattle.machine.specs.Steps.{sum};
-ghost use Rattle.acts.specs.declared.Effect.the-variants.{Give};
+ghost use Rattle.acts.specs.declared.Act.the-variants.{Give};
 ghost use Rattle.acts.specs.Views.{storedOf, registerIn, nearby, giveSort, lowerSort, storeSort, createSort, launchSort};
 ghost use Rattle.turns.specs.Turns.{targetIn, Takes, Gives, Changes, Launches};
 
 // A step gives register r this value, with the job's source h.
-fn given(r: u8, kind: u8, number: u32, h: Label) -> Effect
+fn given(r: u8, kind: u8, number: u32, h: Label) -> Act
     ensures { λ x. ⌜ x ≡ Give r (record { number = number; kind = kind; source = h }) ⌝ }
 {
-    Effect::Give(
+    Act::Give(
         r,
         Stored {
             number: number,
@@ -37,20 +37,20 @@ fn add_numbers(x: u32, y: u32) -> u32
     ((x as u64 + y as u64) % 4294967296) as u32
 }
 
-fn add(l: Label, h: Label, registers: [Stored; 8], near: Near, r: u8, a: u8, b: u8) -> Effect
+fn add(l: Label, h: Label, registers: [Stored; 8], near: Near, r: u8, a: u8, b: u8) -> Act
     ensures { λ x. ⌜ Takes giveSort (nearby near) (Add r a b) l h registers x ⌝ }
 {
     let u = acts::register_of(h, registers, a);
     let v = acts::register_of(h, registers, b);
     if u.kind != value_kind::PLAIN {
-        return Effect::Blocked;
+        return Act::Blocked;
     }
     if v.kind != value_kind::PLAIN {
-        return Effect::Blocked;
+        return Act::Blocked;
     }
     let z = add_numbers(u.number, v.number);
     let s = u.source.lower_of(v.source);
-    Effect::Give(
+    Act::Give(
         r,
         Stored {
             number: z,
@@ -60,43 +60,43 @@ fn add(l: Label, h: Label, registers: [Stored; 8], near: Near, r: u8, a: u8, b: 
     )
 }
 
-fn new(l: Label, h: Label, registers: [Stored; 8], near: Near, r: u8, i: u8, a: u8) -> Effect
+fn new(l: Label, h: Label, registers: [Stored; 8], near: Near, r: u8, i: u8, a: u8) -> Act
     ensures { λ x. ⌜ Takes createSort (nearby near) (New r i a) l h registers x ⌝ }
 {
     let v = acts::register_of(h, registers, a);
     acts::make_cell(l, h, near, r, i, v)
 }
 
-fn read(l: Label, h: Label, registers: [Stored; 8], near: Near, u: Stored, r: u8, w: u8) -> Effect
+fn read(l: Label, h: Label, registers: [Stored; 8], near: Near, u: Stored, r: u8, w: u8) -> Act
     requires { ⌜ storedOf u ≡ registerIn h registers w ⌝ }
     ensures { λ x. ⌜ Takes giveSort (nearby near) (Read r w) l h registers x ⌝ }
 {
     if u.kind != value_kind::CELL {
-        return Effect::Blocked;
+        return Act::Blocked;
     }
     let k = u.number;
     if (k as usize) < near.cells {
         let cell = near.cell;
         let content = acts::content_of(cell);
         let t = acts::acted(h, content);
-        return Effect::Give(r, t);
+        return Act::Give(r, t);
     }
-    Effect::Blocked
+    Act::Blocked
 }
 
-fn write(l: Label, h: Label, registers: [Stored; 8], near: Near, u: Stored, w: u8, a: u8) -> Effect
+fn write(l: Label, h: Label, registers: [Stored; 8], near: Near, u: Stored, w: u8, a: u8) -> Act
     requires { ⌜ storedOf u ≡ registerIn h registers w ⌝ }
     ensures { λ x. ⌜ Takes storeSort (nearby near) (Write w a) l h registers x ⌝ }
 {
     if u.kind != value_kind::CELL {
-        return Effect::Blocked;
+        return Act::Blocked;
     }
     // One that is blocked reads no value: that would copy the registers.
     if acts::is_open(l, near, u.number) {
         let v = acts::register_of(h, registers, a);
         return acts::write_cell(l, h, near, u.number, v);
     }
-    Effect::Blocked
+    Act::Blocked
 }
 
 fn relabel(
@@ -107,22 +107,22 @@ fn relabel(
     u: Stored,
     w: u8,
     o: Label,
-) -> Effect
+) -> Act
     requires { ⌜ storedOf u ≡ registerIn h registers w ⌝ }
     ensures { λ x. ⌜ Takes storeSort (nearby near) (Relabel w o) l h registers x ⌝ }
 {
     if u.kind != value_kind::CELL {
-        return Effect::Blocked;
+        return Act::Blocked;
     }
     acts::relabel_cell(l, h, near, u.number, o)
 }
 
-fn exec(l: Label, h: Label, registers: [Stored; 8], near: Near, u: Stored, w: u8) -> Effect
+fn exec(l: Label, h: Label, registers: [Stored; 8], near: Near, u: Stored, w: u8) -> Act
     requires { ⌜ storedOf u ≡ registerIn h registers w ⌝ }
     ensures { λ x. ⌜ Takes launchSort (nearby near) (Exec w) l h registers x ⌝ }
 {
     if u.kind != value_kind::CELL {
-        return Effect::Blocked;
+        return Act::Blocked;
     }
     acts::exec_cell(l, h, near, u.number)
 }
@@ -159,7 +159,7 @@ pub fn give(
     registers: [Stored; 8],
     near: Near,
     u: Stored,
-) -> Effect
+) -> Act
     requires { ⌜ Gives (byteAt (now s) o) × (o ≤ length (now s)) × (storedOf u ≡ targetIn (stepAt (now s) o) h registers) ⌝ }
     ensures { λ x. ⌜ Takes giveSort (nearby near) (stepAt (now (s .entry)) o) l h registers x ⌝ }
 {
@@ -184,7 +184,7 @@ pub fn give(
 }
 
 // The same where it is new.
-pub fn create(s: &[u8], o: usize, l: Label, h: Label, registers: [Stored; 8], near: Near) -> Effect
+pub fn create(s: &[u8], o: usize, l: Label, h: Label, registers: [Stored; 8], near: Near) -> Act
     requires { ⌜ (byteAt (now s) o ≡ 68) × (o ≤ length (now s)) ⌝ }
     ensures { λ x. ⌜ Takes createSort (nearby near) (stepAt (now (s .entry)) o) l h registers x ⌝ }
 {
@@ -203,7 +203,7 @@ pub fn change(
     registers: [Stored; 8],
     near: Near,
     u: Stored,
-) -> Effect
+) -> Act
     requires { ⌜ Changes (byteAt (now s) o) × (o ≤ length (now s)) × (storedOf u ≡ targetIn (stepAt (now s) o) h registers) ⌝ }
     ensures { λ x. ⌜ Takes storeSort (nearby near) (stepAt (now (s .entry)) o) l h registers x ⌝ }
 {
@@ -217,16 +217,16 @@ pub fn change(
 }
 
 // Where it lowers the label, and appends it to the history.
-pub fn lower(s: &[u8], o: usize, l: Label, h: Label, registers: [Stored; 8], near: Near) -> Effect
+pub fn lower(s: &[u8], o: usize, l: Label, h: Label, registers: [Stored; 8], near: Near) -> Act
     requires { ⌜ (byteAt (now s) o ≡ 72) × (o ≤ length (now s)) ⌝ }
     ensures { λ x. ⌜ Takes lowerSort (nearby near) (stepAt (now (s .entry)) o) l h registers x ⌝ }
 {
     let q = Label(records::byte(s, o + 1));
     if l.reaches(q) {
         let source = h.lower_of(q);
-        return Effect::Lower(q, source);
+        return Act::Lower(q, source);
     }
-    Effect::Blocked
+    Act::Blocked
 }
 
 // Where it starts a job: start, exec.
@@ -238,7 +238,7 @@ pub fn launch(
     registers: [Stored; 8],
     near: Near,
     u: Stored,
-) -> Effect
+) -> Act
     requires { ⌜ Launches (byteAt (now s) o) × (o ≤ length (now s)) × (storedOf u ≡ targetIn (stepAt (now s) o) h registers) ⌝ }
     ensures { λ x. ⌜ Takes launchSort (nearby near) (stepAt (now (s .entry)) o) l h registers x ⌝ }
 {

@@ -23,7 +23,7 @@ use Rattle.typing.specs.declared.State.{State}
 use Rattle.typing.specs.declared.Verdict.{Verdict}
 use Rattle.typing.specs.declared.Verdict.the-variants.{Accepted, Refused}
 use Rattle.typing.specs.Shapes.{View, viewOf}
-use Rattle.typing.specs.Rules.{Typed, passes, stuck, breaks, step, fault}
+use Rattle.typing.specs.Rules.{Typed, passes, stuck, breaks, stepRule, fault}
 use Rattle.typing.specs.Verdict.{cellFault, orThen, blockFault, stepFault, orRefused, typed, verdictOf, verdict}
 
 -- the steps of a block
@@ -31,9 +31,9 @@ module _ (B : View) (at : ℕ → Step) (l : ℕ) where
   fault-placed : {os : List ℕ} → Below l os → (t : State) → Placed l (fault B at t os)
   unfolding fault
   fault-placed none t = nowhere-placed l
-  fault-placed (more {o} {os} h r) t = go (step B t (at o)) refl (fault-placed r)
+  fault-placed (more {o} {os} h r) t = go (stepRule B t (at o)) refl (fault-placed r)
     where
-      go : (y : Typed) → step B t (at o) ≡ y → ((u : State) → Placed l (fault B at u os)) → Placed l (fault B at t (o ∷ os))
+      go : (y : Typed) → stepRule B t (at o) ≡ y → ((u : State) → Placed l (fault B at u os)) → Placed l (fault B at t (o ∷ os))
       go (passes u) e i = simp (fault, e) (i u)
       go stuck e i = simp (fault, e) (nowhere-placed l)
       go breaks e i = simp (fault, e) (at-placed l o h)

@@ -19,8 +19,8 @@ use Rattle.book.specs.Outline.{shapeIn}
 use Rattle.book.proofs.Lists.{at-some, at-none}
 use Rattle.typing.specs.declared.Known.{Known}
 use Rattle.typing.specs.declared.Known.the-variants.{Unknown, Plain, Code, CellOf}
-use Rattle.typing.specs.Shapes.{trustOf, highTrust, fits, knownValue, declaredOk}
-use Rattle.typing.specs.Asked.{labelled, tableView, knownIn}
+use Rattle.typing.specs.Shapes.{countedTrust, highTrust, fits, knownValue, declaredOk}
+use Rattle.typing.specs.Asked.{asLabel, tableView, knownIn}
 
 module _ (owners bounds : List ℕ) (v : Value) (n : ℕ) where
   pub value-plain : v ≡ Values.Plain n → Plain ≡ knownIn owners bounds v
@@ -36,11 +36,11 @@ module _ (owners bounds : List ℕ) (v : Value) (n : ℕ) where
   value-no-cell e h = simp (e, at-none owners n h)
 
   pub value-code : v ≡ CodeName n → n < length bounds → Code (label (getD bounds n 0)) ≡ knownIn owners bounds v
-  unfolding knownIn knownValue onSome labelled
+  unfolding knownIn knownValue onSome asLabel
   value-code e h = simp (e, at-some bounds n h)
 
   pub value-no-code : v ≡ CodeName n → length bounds ≤ n → Unknown ≡ knownIn owners bounds v
-  unfolding knownIn knownValue onSome labelled
+  unfolding knownIn knownValue onSome asLabel
   value-no-code e h = simp (e, at-none bounds n h)
 
 pub ruleset values = (value-plain, value-cell, value-no-cell, value-code, value-no-code)
@@ -51,8 +51,8 @@ module _ (c : Label) (table owners bounds : List ℕ) (d : Declared) (h : Bool) 
   unfolding declaredOk
   declared-low e = simp (← eh, e)
 
-  module _ (e : h ≡ true) (t : Trust) (m : Bool) (et : t ≡ trustOf c (shapeIn table) (d .shape)) (em : m ≡ isMet t (d .label)) where
-    met : isMet (trustOf c (shapeIn table) (d .shape)) (d .label) ≡ m
+  module _ (e : h ≡ true) (t : Trust) (m : Bool) (et : t ≡ countedTrust c (shapeIn table) (d .shape)) (em : m ≡ isMet t (d .label)) where
+    met : isMet (countedTrust c (shapeIn table) (d .shape)) (d .label) ≡ m
     met = ap (λ (t : Trust). isMet t (d .label)) (sym et) ∙ sym em
 
     pub declared-under : m ≡ false → false ≡ declaredOk (tableView c table owners bounds) d

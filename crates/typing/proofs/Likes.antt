@@ -18,7 +18,7 @@ use Rattle.book.specs.Asked.{Sound}
 use Rattle.book.proofs.Tests.{either-false}
 use Rattle.typing.specs.declared.Known.{Known}
 use Rattle.typing.specs.declared.Known.the-variants.{Unknown, Plain, Code, CellOf}
-use Rattle.typing.specs.Shapes.{isPlain, isCode, isCell, boundOf, contentOf, trustOf, highTrust, alikeIn, alike, knownOf, fits}
+use Rattle.typing.specs.Shapes.{isPlainShape, isCodeShape, isCellShape, boundOf, contentOf, countedTrust, highTrust, alikeIn, alike, knownOf, fits}
 use Rattle.typing.specs.Asked.{plainShape}
 
 module _ (x : Shape) where
@@ -32,11 +32,11 @@ module _ (x : Shape) where
 
 pub ruleset plains = (plain-code, plain-other)
 
-pub high-is : (c : Label) (shape : ℕ → Shape) (i : ℕ) (t : Trust) (b : Bool) → t ≡ trustOf c shape i → b ≡ isHigh t c → b ≡ highTrust c shape i
+pub high-is : (c : Label) (shape : ℕ → Shape) (i : ℕ) (t : Trust) (b : Bool) → t ≡ countedTrust c shape i → b ≡ isHigh t c → b ≡ highTrust c shape i
 high-is c shape i t b e h = h ∙ ap (λ (t : Trust). isHigh t c) e
 
 module _ (c : Label) (shape : ℕ → Shape) (i : ℕ) (x : Shape) (ex : x ≡ shape i) where
-  pub trust-is : (t : Trust) → t ≡ normal c (x .trust) → t ≡ trustOf c shape i
+  pub trust-is : (t : Trust) → t ≡ normal c (x .trust) → t ≡ countedTrust c shape i
   trust-is t e = e ∙ ap (λ (x : Shape). normal c (x .trust)) ex
 
   pub known-code : x .kind ≡ 17 → Code (x .bound) ≡ knownOf c shape i
@@ -59,19 +59,19 @@ module _ (c : Label) (shape : ℕ → Shape) (ok : Sound shape) where
   unfolding alikeIn both
   enough zero g i j p q = absurd (omega arith)
   enough (suc f) zero i j p q = absurd (omega arith)
-  enough (suc f) (suc g) i j p q = go (isCell c shape i) refl (λ h k. enough f g (contentOf c shape i) (contentOf c shape j) h k)
+  enough (suc f) (suc g) i j p q = go (isCellShape c shape i) refl (λ h k. enough f g (contentOf c shape i) (contentOf c shape j) h k)
     where
       rest : Bool → Bool → Bool
       rest b r =
-          either (both (isPlain c shape i) (isPlain c shape j))
-          (either (both (isCode c shape i) (both (isCode c shape j) (eqb (boundOf c shape i .0) (boundOf c shape j .0))))
-          (both b (both (isCell c shape j) (both (eqb (trustOf c shape i .0) (trustOf c shape j .0)) r))))
+          either (both (isPlainShape c shape i) (isPlainShape c shape j))
+          (either (both (isCodeShape c shape i) (both (isCodeShape c shape j) (eqb (boundOf c shape i .0) (boundOf c shape j .0))))
+          (both b (both (isCellShape c shape j) (both (eqb (countedTrust c shape i .0) (countedTrust c shape j .0)) r))))
 
-      go : (b : Bool) → isCell c shape i ≡ b
+      go : (b : Bool) → isCellShape c shape i ≡ b
           → (contentOf c shape i < f → contentOf c shape i < g
           → alikeIn c shape f (contentOf c shape i) (contentOf c shape j) ≡ alikeIn c shape g (contentOf c shape i) (contentOf c shape j))
           → alikeIn c shape (suc f) i j ≡ alikeIn c shape (suc g) i j
-      go true e r = let d = ok .falls i (eqb-true _ _ e) in ap (rest (isCell c shape i)) (r (omega arith) (omega arith))
+      go true e r = let d = ok .falls i (eqb-true _ _ e) in ap (rest (isCellShape c shape i)) (r (omega arith) (omega arith))
       go false e r = simp e
 
 -- the content of a cell shape is lower-numbered; m is the measure, i
@@ -100,11 +100,11 @@ module _ (c : Label) (shape : ℕ → Shape) (i j : ℕ) (a b : Shape) (ea : a �
   unfolding alike alikeIn both either
   like-plain r p q e = e ∙ simp (← ea, ← eb, ne-eqb _ _ p, ne-eqb _ _ q, either-false)
 
-  module _ (u v : Trust) (eu : u ≡ trustOf c shape i) (ev : v ≡ trustOf c shape j) (p : a .kind ≡ 18) (q : b .kind ≡ 18) where
+  module _ (u v : Trust) (eu : u ≡ countedTrust c shape i) (ev : v ≡ countedTrust c shape j) (p : a .kind ≡ 18) (q : b .kind ≡ 18) where
     pub like-apart : (u .0 ≡ v .0 → ⊥) → false ≡ alike c shape i j
     unfolding alike alikeIn both either
     like-apart n =
-        let m : eqb (trustOf c shape i .0) (trustOf c shape j .0) ≡ false = rw (← eu, ← ev) (ne-eqb _ _ n) in
+        let m : eqb (countedTrust c shape i .0) (countedTrust c shape j .0) ≡ false = rw (← eu, ← ev) (ne-eqb _ _ n) in
         simp (m, ← ea, ← eb, p, q)
 
     pub like-cell : (r : Bool) → r ≡ alike c shape (a .content) (b .content) → Sound shape → u .0 ≡ v .0 → r ≡ alike c shape i j
@@ -113,7 +113,7 @@ module _ (c : Label) (shape : ℕ → Shape) (i j : ℕ) (a b : Shape) (ea : a �
         let x : shape i .kind ≡ 18 = ap (λ (s : Shape). s .kind) (sym ea) ∙ p in
         let y : shape j .kind ≡ 18 = ap (λ (s : Shape). s .kind) (sym eb) ∙ q in
         let d = ok .falls i x in
-        let m : eqb (trustOf c shape i .0) (trustOf c shape j .0) ≡ true = rw (← eu, ← ev) (eq-eqb _ _ n) in
+        let m : eqb (countedTrust c shape i .0) (countedTrust c shape j .0) ≡ true = rw (← eu, ← ev) (eq-eqb _ _ n) in
         let z : a .content ≡ shape i .content = ap (λ (s : Shape). s .content) ea in
         er ∙ enough c shape ok (suc (a .content)) i (a .content) (b .content) (omega arith) (omega arith)
         ∙ ap (λ (k : ℕ). alikeIn c shape i k (b .content)) z

@@ -17,40 +17,40 @@ use Rattle.book.specs.Control.{both}
 use Rattle.book.specs.Outline.{shapeIn}
 use Rattle.typing.specs.declared.Known.{Known}
 use Rattle.typing.specs.declared.Known.the-variants.{Unknown, Plain, Code, CellOf}
-use Rattle.typing.specs.declared.Cell.{Cell}
-use Rattle.typing.specs.declared.Cell.the-variants.{Of, No}
+use Rattle.typing.specs.declared.KnownCell.{KnownCell}
+use Rattle.typing.specs.declared.KnownCell.the-variants.{Of, No}
 use Rattle.typing.specs.declared.State.{State}
 use Rattle.typing.specs.declared.Stepped.{Stepped}
 use Rattle.typing.specs.declared.Stepped.the-variants.{Passes, Gives, Lowers, Stuck, Breaks}
 use Rattle.typing.specs.Shapes.{View, knownValue}
-use Rattle.typing.specs.Rules.{Typed, passes, stuck, breaks, gives, lowered}
+use Rattle.typing.specs.Rules.{Typed, passes, stuck, breaks, gives, lowersTo}
 
 abbrev pub plainShape : Shape → Bool
 plainShape x = both (not (eqb (x .kind) codeShapeKind)) (not (eqb (x .kind) cellShapeKind))
 
-unfoldable pub labelled : Option ℕ → Option Label
-labelled none = none
-labelled (some n) = some (label n)
+unfoldable pub asLabel : Option ℕ → Option Label
+asLabel none = none
+asLabel (some n) = some (label n)
 
 -- from the table of shapes, the cells' shapes and the blocks' bounds
 abbrev pub tableView : Label → List ℕ → List ℕ → List ℕ → View
 tableView c shapes cells bounds =
-    record { c = c; shape = shapeIn shapes; cell = getElem? cells; bound = λ b. labelled (getElem? bounds b) }
+    record { c = c; shape = shapeIn shapes; cell = getElem? cells; bound = λ b. asLabel (getElem? bounds b) }
 
 -- what is known of a declared value, from the tables
 unfoldable pub knownIn : List ℕ → List ℕ → Value → Known
-knownIn cells bounds v = knownValue (getElem? cells) (λ b. labelled (getElem? bounds b)) v
+knownIn cells bounds v = knownValue (getElem? cells) (λ b. asLabel (getElem? bounds b)) v
 
 -- what the code hands back, as a rule's answer in the state s
 unfoldable pub told : State → Stepped → Typed
 told s Passes = passes s
 told s (Gives r x) = gives s r (x .known) (x .effect)
-told s (Lowers q) = lowered s q
+told s (Lowers q) = lowersTo s q
 told s Stuck = stuck
 told s Breaks = breaks
 
 -- what is known is a cell, and of which shape
-unfoldable pub cellOn : Known → Cell
+unfoldable pub cellOn : Known → KnownCell
 cellOn Unknown = No
 cellOn Plain = No
 cellOn (Code b) = No

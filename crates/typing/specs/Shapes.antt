@@ -42,14 +42,14 @@ viewOf K =
 
 -- over C and the shapes by their numbers
 module _ (c : Label) (shape : ℕ → Shape) where
-  abbrev pub isCode : ℕ → Bool
-  isCode i = eqb (shape i .kind) codeShapeKind
+  abbrev pub isCodeShape : ℕ → Bool
+  isCodeShape i = eqb (shape i .kind) codeShapeKind
 
-  abbrev pub isCell : ℕ → Bool
-  isCell i = eqb (shape i .kind) cellShapeKind
+  abbrev pub isCellShape : ℕ → Bool
+  isCellShape i = eqb (shape i .kind) cellShapeKind
 
-  abbrev pub isPlain : ℕ → Bool
-  isPlain i = both (not (isCode i)) (not (isCell i))
+  abbrev pub isPlainShape : ℕ → Bool
+  isPlainShape i = both (not (isCodeShape i)) (not (isCellShape i))
 
   abbrev pub boundOf : ℕ → Label
   boundOf i = shape i .bound
@@ -58,35 +58,35 @@ module _ (c : Label) (shape : ℕ → Shape) where
   contentOf i = shape i .content
 
   -- "In typing, a trust .. at or below C counts as 0"
-  abbrev pub trustOf : ℕ → Trust
-  trustOf i = normal c (shape i .trust)
+  abbrev pub countedTrust : ℕ → Trust
+  countedTrust i = normal c (shape i .trust)
 
   -- "Two shapes are alike when both are plain, both code with one bound, or both cells with equal trust and alike contents."
   -- Contents are lower-numbered, so a depth of i + 1 is enough.
   unfoldable pub alikeIn : ℕ → ℕ → ℕ → Bool
   alikeIn zero i j = true
   alikeIn (suc n) i j =
-      either (both (isPlain i) (isPlain j))
-      (either (both (isCode i) (both (isCode j) (eqb (boundOf i .0) (boundOf j .0))))
-      (both (isCell i) (both (isCell j) (both (eqb (trustOf i .0) (trustOf j .0)) (alikeIn n (contentOf i) (contentOf j))))))
+      either (both (isPlainShape i) (isPlainShape j))
+      (either (both (isCodeShape i) (both (isCodeShape j) (eqb (boundOf i .0) (boundOf j .0))))
+      (both (isCellShape i) (both (isCellShape j) (both (eqb (countedTrust i .0) (countedTrust j .0)) (alikeIn n (contentOf i) (contentOf j))))))
 
   unfoldable pub alike : ℕ → ℕ → Bool
   alike i j = alikeIn (suc i) i j
 
   -- what is known of a value that has shape i
   unfoldable pub knownOf : ℕ → Known
-  knownOf i = if isCode i then Code (boundOf i) else if isCell i then CellOf i else Plain
+  knownOf i = if isCodeShape i then Code (boundOf i) else if isCellShape i then CellOf i else Plain
 
   -- "A code register of bound B fits a code content of bound at most B; others fit when alike."
   unfoldable pub fits : Known → ℕ → Bool
   fits Unknown i = false
-  fits Plain i = isPlain i
-  fits (Code b) i = both (isCode i) (reaches b (boundOf i))
+  fits Plain i = isPlainShape i
+  fits (Code b) i = both (isCodeShape i) (reaches b (boundOf i))
   fits (CellOf j) i = alike j i
 
   -- "trust above C"
   abbrev pub highTrust : ℕ → Bool
-  highTrust i = isHigh (trustOf i) c
+  highTrust i = isHigh (countedTrust i) c
 
 -- what is known of a declared value, by the declared cells' shapes and the blocks' bounds
 unfoldable pub knownValue : (ℕ → Option ℕ) → (ℕ → Option Label) → Value → Known
@@ -98,6 +98,6 @@ knownValue cell bound (CodeName n) = onSome (bound n) Unknown Code
 unfoldable pub declaredOk : View → Declared → Bool
 declaredOk B d =
     if highTrust (B .c) (B .shape) (d .shape)
-    then both (isMet (trustOf (B .c) (B .shape) (d .shape)) (d .label))
+    then both (isMet (countedTrust (B .c) (B .shape) (d .shape)) (d .label))
     (fits (B .c) (B .shape) (knownValue (B .cell) (B .bound) (d .value)) (contentOf (B .c) (B .shape) (d .shape)))
     else true

@@ -1,6 +1,6 @@
 // The typing rules of the steps that go by shapes, at P above C.
-use crate::Cell;
 use crate::Known;
+use crate::KnownCell;
 use crate::State;
 use crate::Stepped;
 use crate::rules;
@@ -11,11 +11,11 @@ ghost use mathlib.Core.Path.{_≡_};
 ghost use lib.ListN.{getElem?};
 ghost use Rattle.book.specs.Outline.{shapeIn};
 ghost use Rattle.book.specs.Asked.{Sound};
-ghost use Rattle.typing.specs.Rules.{known, holds, naming, coding, making, readFrom, reading, writing, relabelling, executing, starting};
-ghost use Rattle.typing.specs.Asked.{labelled, told, cellOn};
+ghost use Rattle.typing.specs.Rules.{known, holds, nameRule, codeRule, newRule, readFrom, readRule, writeRule, relabelRule, execRule, startRule};
+ghost use Rattle.typing.specs.Asked.{asLabel, told, cellOn};
 
 pub fn name_step(shapes: &[u8], cells: &[u8], c: Label, s: State, r: u8, k: u8) -> Stepped
-    ensures { λ x. ⌜ told s x ≡ naming c (shapeIn (now (shapes .entry))) s r (getElem? (now (cells .entry)) k) ⌝ }
+    ensures { λ x. ⌜ told s x ≡ nameRule c (shapeIn (now (shapes .entry))) s r (getElem? (now (cells .entry)) k) ⌝ }
 {
     let n = k as usize;
     if n < cells.len() {
@@ -31,7 +31,7 @@ pub fn name_step(shapes: &[u8], cells: &[u8], c: Label, s: State, r: u8, k: u8) 
 }
 
 pub fn code_step(bounds: &[u8], s: State, r: u8, b: u8) -> Stepped
-    ensures { λ x. ⌜ told s x ≡ coding s r (labelled (getElem? (now (bounds .entry)) b)) ⌝ }
+    ensures { λ x. ⌜ told s x ≡ codeRule s r (asLabel (getElem? (now (bounds .entry)) b)) ⌝ }
 {
     let n = b as usize;
     if n < bounds.len() {
@@ -43,7 +43,7 @@ pub fn code_step(bounds: &[u8], s: State, r: u8, b: u8) -> Stepped
 }
 
 pub fn start_step(bounds: &[u8], s: State, b: u8) -> Stepped
-    ensures { λ x. ⌜ told s x ≡ starting s (labelled (getElem? (now (bounds .entry)) b)) ⌝ }
+    ensures { λ x. ⌜ told s x ≡ startRule s (asLabel (getElem? (now (bounds .entry)) b)) ⌝ }
 {
     let n = b as usize;
     if n < bounds.len() {
@@ -74,7 +74,7 @@ fn does_hold(shapes: &[u8], c: Label, s: State, a: u8, i: u8) -> bool
 
 pub fn new_step(shapes: &[u8], c: Label, s: State, r: u8, i: u8, a: u8) -> Stepped
     requires { ⌜ Sound (shapeIn (now shapes)) ⌝ }
-    ensures { λ x. ⌜ told s x ≡ making c (shapeIn (now (shapes .entry))) s r i a ⌝ }
+    ensures { λ x. ⌜ told s x ≡ newRule c (shapeIn (now (shapes .entry))) s r i a ⌝ }
 {
     let p = s.p;
     let x = decode::shape_in(shapes, i);
@@ -94,15 +94,15 @@ pub fn new_step(shapes: &[u8], c: Label, s: State, r: u8, i: u8, a: u8) -> Stepp
 }
 
 // The shape of a register that is a cell of effect above C.
-fn cell_in(c: Label, s: State, w: u8) -> Cell
+fn cell_in(c: Label, s: State, w: u8) -> KnownCell
     ensures { λ x. ⌜ x ≡ cellOn (known c s w) ⌝ }
 {
     let known = rules::known_in(c, s, w);
     match known {
-        Known::Unknown => Cell::No,
-        Known::Plain => Cell::No,
-        Known::Code(_) => Cell::No,
-        Known::CellOf(i) => Cell::Of(i),
+        Known::Unknown => KnownCell::No,
+        Known::Plain => KnownCell::No,
+        Known::Code(_) => KnownCell::No,
+        Known::CellOf(i) => KnownCell::Of(i),
     }
 }
 
@@ -118,7 +118,7 @@ fn read_cell(shapes: &[u8], c: Label, s: State, r: u8, i: u8) -> Stepped
 }
 
 pub fn read_step(shapes: &[u8], c: Label, s: State, r: u8, w: u8) -> Stepped
-    ensures { λ x. ⌜ told s x ≡ reading c (shapeIn (now (shapes .entry))) s r w ⌝ }
+    ensures { λ x. ⌜ told s x ≡ readRule c (shapeIn (now (shapes .entry))) s r w ⌝ }
 {
     let x = rules::register_of(s, w);
     let effect = x.effect;
@@ -126,18 +126,18 @@ pub fn read_step(shapes: &[u8], c: Label, s: State, r: u8, w: u8) -> Stepped
         return rules::give_low(s, r);
     }
     match cell_in(c, s, w) {
-        Cell::No => rules::fail(s),
-        Cell::Of(i) => read_cell(shapes, c, s, r, i),
+        KnownCell::No => rules::fail(s),
+        KnownCell::Of(i) => read_cell(shapes, c, s, r, i),
     }
 }
 
 pub fn write_step(shapes: &[u8], c: Label, s: State, w: u8, a: u8) -> Stepped
     requires { ⌜ Sound (shapeIn (now shapes)) ⌝ }
-    ensures { λ x. ⌜ told s x ≡ writing c (shapeIn (now (shapes .entry))) s w a ⌝ }
+    ensures { λ x. ⌜ told s x ≡ writeRule c (shapeIn (now (shapes .entry))) s w a ⌝ }
 {
     match cell_in(c, s, w) {
-        Cell::No => rules::fail(s),
-        Cell::Of(i) => {
+        KnownCell::No => rules::fail(s),
+        KnownCell::Of(i) => {
             let trust = shapes::trust_of(shapes, c, i);
             let p = s.p;
             if trust.is_met(p) {
@@ -155,11 +155,11 @@ pub fn write_step(shapes: &[u8], c: Label, s: State, w: u8, a: u8) -> Stepped
 }
 
 pub fn relabel_step(shapes: &[u8], c: Label, s: State, w: u8, o: Label) -> Stepped
-    ensures { λ x. ⌜ told s x ≡ relabelling c (shapeIn (now (shapes .entry))) s w o ⌝ }
+    ensures { λ x. ⌜ told s x ≡ relabelRule c (shapeIn (now (shapes .entry))) s w o ⌝ }
 {
     match cell_in(c, s, w) {
-        Cell::No => rules::fail(s),
-        Cell::Of(i) => {
+        KnownCell::No => rules::fail(s),
+        KnownCell::Of(i) => {
             let trust = shapes::trust_of(shapes, c, i);
             let p = s.p;
             if trust.is_met(p) {
@@ -177,11 +177,11 @@ pub fn relabel_step(shapes: &[u8], c: Label, s: State, w: u8, o: Label) -> Stepp
 }
 
 pub fn exec_step(shapes: &[u8], c: Label, s: State, w: u8) -> Stepped
-    ensures { λ x. ⌜ told s x ≡ executing c (shapeIn (now (shapes .entry))) s w ⌝ }
+    ensures { λ x. ⌜ told s x ≡ execRule c (shapeIn (now (shapes .entry))) s w ⌝ }
 {
     match cell_in(c, s, w) {
-        Cell::No => rules::fail(s),
-        Cell::Of(i) => {
+        KnownCell::No => rules::fail(s),
+        KnownCell::Of(i) => {
             let y = decode::shape_in(shapes, i);
             let z = decode::shape_in(shapes, y.content);
             let trust = shapes::trust_of(shapes, c, i);

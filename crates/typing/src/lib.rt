@@ -18,7 +18,7 @@ pub enum Known {
 }
 
 // The shape of a register that is a cell.
-pub enum Cell {
+pub enum KnownCell {
     Of(u8),
     No,
 }

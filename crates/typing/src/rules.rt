@@ -5,11 +5,11 @@ use crate::State;
 use crate::Stepped;
 use labels::Label;
 ghost use mathlib.Core.Path.{_≡_};
-ghost use Rattle.typing.specs.Rules.{passes, stuck, breaks, register, gives, givesLow, fresh, used, known, lowered, lowering, addable, adding};
+ghost use Rattle.typing.specs.Rules.{passes, stuck, breaks, registerType, gives, givesLow, fresh, used, known, lowersTo, lowerRule, addable, addRule};
 ghost use Rattle.typing.specs.Asked.{told};
 
 pub fn register_of(s: State, r: u8) -> Register
-    ensures { λ x. ⌜ x ≡ register s r ⌝ }
+    ensures { λ x. ⌜ x ≡ registerType s r ⌝ }
 {
     let i = r as usize;
     let registers = s.registers;
@@ -102,13 +102,13 @@ impl State {
 
 // P is the label from here on.
 fn lower_to(s: State, q: Label) -> Stepped
-    ensures { λ x. ⌜ told s x ≡ lowered s q ⌝ }
+    ensures { λ x. ⌜ told s x ≡ lowersTo s q ⌝ }
 {
     Stepped::Lowers(q)
 }
 
 pub fn lower_step(c: Label, s: State, q: Label) -> Stepped
-    ensures { λ x. ⌜ told s x ≡ lowering c s q ⌝ }
+    ensures { λ x. ⌜ told s x ≡ lowerRule c s q ⌝ }
 {
     let p = s.p;
     if p.reaches(q) {
@@ -139,7 +139,7 @@ fn is_addable(c: Label, s: State, a: u8) -> bool
 }
 
 pub fn add_step(c: Label, s: State, r: u8, a: u8, b: u8) -> Stepped
-    ensures { λ x. ⌜ told s x ≡ adding c s r a b ⌝ }
+    ensures { λ x. ⌜ told s x ≡ addRule c s r a b ⌝ }
 {
     if is_addable(c, s, a) {
         if is_addable(c, s, b) {

@@ -7,7 +7,7 @@ use labels::Trust;
 ghost use mathlib.Core.Path.{_≡_};
 ghost use Rattle.book.specs.Outline.{shapeIn};
 ghost use Rattle.book.specs.Asked.{Sound};
-ghost use Rattle.typing.specs.Shapes.{trustOf, highTrust, alike, knownOf, fits};
+ghost use Rattle.typing.specs.Shapes.{countedTrust, highTrust, alike, knownOf, fits};
 ghost use Rattle.typing.specs.Asked.{plainShape};
 
 fn is_plain(x: Shape) -> bool
@@ -21,7 +21,7 @@ fn is_plain(x: Shape) -> bool
 
 // The trust of a shape, as typing counts it.
 pub fn trust_of(shapes: &[u8], c: Label, i: u8) -> Trust
-    ensures { λ r. ⌜ r ≡ trustOf c (shapeIn (now (shapes .entry))) i ⌝ }
+    ensures { λ r. ⌜ r ≡ countedTrust c (shapeIn (now (shapes .entry))) i ⌝ }
 {
     let x = decode::shape_in(shapes, i);
     let trust = x.trust;

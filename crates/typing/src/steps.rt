@@ -10,12 +10,12 @@ use labels::Label;
 ghost use mathlib.Core.Path.{_≡_};
 ghost use Rattle.book.specs.Outline.{shapeIn};
 ghost use Rattle.book.specs.Asked.{Sound};
-ghost use Rattle.typing.specs.Rules.{lowStep, highStep, step};
+ghost use Rattle.typing.specs.Rules.{lowRule, highRule, stepRule};
 ghost use Rattle.typing.specs.Asked.{tableView, told};
 
 // A step at P at or below C.
 fn type_low(table: &[u8], c: Label, s: State, p: Step) -> Stepped
-    ensures { λ x. ⌜ told s x ≡ lowStep c (shapeIn (now (table .entry))) s p ⌝ }
+    ensures { λ x. ⌜ told s x ≡ lowRule c (shapeIn (now (table .entry))) s p ⌝ }
 {
     match p {
         Step::Put(r, _) => rules::give_low(s, r),
@@ -40,7 +40,7 @@ fn type_low(table: &[u8], c: Label, s: State, p: Step) -> Stepped
 // A step at P above C.
 fn type_high(table: &[u8], owners: &[u8], bounds: &[u8], c: Label, s: State, p: Step) -> Stepped
     requires { ⌜ Sound (shapeIn (now table)) ⌝ }
-    ensures { λ x. ⌜ told s x ≡ highStep (tableView c (now (table .entry)) (now (owners .entry)) (now (bounds .entry))) s p ⌝ }
+    ensures { λ x. ⌜ told s x ≡ highRule (tableView c (now (table .entry)) (now (owners .entry)) (now (bounds .entry))) s p ⌝ }
 {
     match p {
         Step::Put(r, _) => {
@@ -63,7 +63,7 @@ fn type_high(table: &[u8], owners: &[u8], bounds: &[u8], c: Label, s: State, p: 
 // The typing rule of a step.
 pub fn type_step(table: &[u8], owners: &[u8], bounds: &[u8], c: Label, s: State, p: Step) -> Stepped
     requires { ⌜ Sound (shapeIn (now table)) ⌝ }
-    ensures { λ x. ⌜ told s x ≡ step (tableView c (now (table .entry)) (now (owners .entry)) (now (bounds .entry))) s p ⌝ }
+    ensures { λ x. ⌜ told s x ≡ stepRule (tableView c (now (table .entry)) (now (owners .entry)) (now (bounds .entry))) s p ⌝ }
 {
     let label = s.p;
     if c.reaches(label) {

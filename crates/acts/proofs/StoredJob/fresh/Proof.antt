@@ -1,8 +1,8 @@
 -- `Job::fresh` meets its contract. Assumes nothing.
 use borrow.Author.Needs.{needs}
 use Rattle.acts.proofs.Values.{fresh-is}
-use Rattle.acts.proofs.Job.fresh.Statement.{statement}
-use Rattle.acts.proofs.Job.fresh.Tie as tie
+use Rattle.acts.proofs.StoredJob.fresh.Statement.{statement}
+use Rattle.acts.proofs.StoredJob.fresh.Tie as tie
 
 returns : tie.Need-returns
 returns c = fresh-is _ _ _ _ _ (c .zero-with .ensures)
