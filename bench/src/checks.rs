@@ -3,7 +3,8 @@
 use crate::sides::{Checker, CHECKERS};
 use crate::timing::{self, Times, COLUMNS, COLUMNS_PER};
 use crate::BOOK_A;
-use reference::{book, full_book, mixed_book, Verdict};
+use reference::model::book;
+use reference::{full_book, mixed_book, Verdict};
 use std::hint::black_box;
 
 /// The rows: a name, and the book.

@@ -1,7 +1,7 @@
 //! The limit with the reference's answers: the calls of `limit.c`, which does the same in plain C.
 
-use reference::book::Refusal;
-use reference::machine::{Lent, Outcome, Ran};
+use reference::model::book::Refusal;
+use reference::model::machine::{Lent, Outcome, Ran};
 use reference::Verdict;
 
 /// As `xemdulba_checked` of include/xemdulba.h; refusal 0 is acceptance.
@@ -94,8 +94,8 @@ fn stated(refusal: u32, place: u32) -> Result<(), Refusal> {
 #[cfg(test)]
 mod tests {
     use super::*;
-    use reference::differ::{books, differ};
-    use reference::machine::fast;
+    use reference::cases::differ::{books, differ};
+    use reference::model::machine::fast;
 
     const REFUSED: Refusal = Refusal {
         number: 99,

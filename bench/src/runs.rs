@@ -3,9 +3,9 @@
 use crate::sides::RUNNERS;
 use crate::timing::{self, Times, COLUMNS, COLUMNS_PER};
 use crate::BOOK_A;
-use reference::book::PLAIN_VALUE;
-use reference::machine::{event, fast, Runner};
-use reference::runs::{answer::outcome, Run};
+use reference::cases::runs::{outcome, Run};
+use reference::model::book::PLAIN_VALUE;
+use reference::model::machine::{event, fast, Runner};
 use reference::{full_book, mixed_book};
 use std::hint::black_box;
 

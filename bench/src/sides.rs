@@ -2,7 +2,7 @@
 //! limit. The reference runs on the faster of its two machines.
 
 use crate::limit;
-use reference::machine::{fast, Runner};
+use reference::model::machine::{fast, Runner};
 use reference::Verdict;
 
 pub const SIDES: [&str; 3] = ["verified", "reference", "limit"];

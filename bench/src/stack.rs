@@ -6,7 +6,7 @@ mod thread;
 
 use crate::runs::{mixed, steps, LONGEST_ROUNDS, MOST_STEPS};
 use crate::BOOK_A;
-use reference::runs::Run;
+use reference::cases::runs::Run;
 use reference::{full_book, mixed_book};
 use std::hint::black_box;
 use thread::stack_used;

@@ -12,7 +12,10 @@
 //! `reference list FILE` prints that book in words.
 //! `reference pick N` reads a file of test books on standard input and writes book N, from 0.
 
-use reference::{answer, check, check_books, differ, file, generate, listing, machine, runs};
+use reference::cases::{check_books, differ, file, generate, runs};
+use reference::check;
+use reference::model::machine;
+use reference::printing::{answer, listing, run_answer, run_words};
 use std::ffi::OsString;
 use std::fmt::Display;
 use std::io::{self, Read, Write};
@@ -40,7 +43,7 @@ fn run(
     let word = command.as_ref().and_then(|word| word.to_str());
     match (word, path) {
         (Some("books"), _) => write_books(&generate::books()),
-        (Some("read"), _) => print_lines(answer::line),
+        (Some("read"), _) => print_lines(reading),
         (Some("check-books"), _) => write_books(&check_books::books()),
         (Some("verdict"), _) => print_lines(|_, book| check(book)),
         (Some("runs"), _) => io::stdout().write_all(&runs::file::join(&runs::all())),
@@ -74,11 +77,16 @@ fn print_lines<T: Display>(line: impl Fn(usize, &[u8]) -> T) -> io::Result<()> {
     out.flush()
 }
 
+fn reading(index: usize, book: &[u8]) -> String {
+    answer::line(generate::asked_block(index), book)
+}
+
 /// One line for each run in the file on standard input.
 fn print_answers() -> io::Result<()> {
     let mut out = io::BufWriter::new(io::stdout().lock());
     for run in runs::file::split(&standard_input()?)? {
-        writeln!(out, "{}", runs::answer::line(&run))?;
+        let (outcome, lent) = runs::outcome(machine::run, &run);
+        writeln!(out, "{}", run_answer::line(&run.events, outcome, &lent))?;
     }
     out.flush()
 }
@@ -86,7 +94,8 @@ fn print_answers() -> io::Result<()> {
 fn print_run(book: OsString, events: Option<OsString>) -> io::Result<()> {
     let events = events.ok_or_else(|| io::Error::other(USAGE))?;
     let (book, events) = (std::fs::read(book)?, std::fs::read(events)?);
-    print!("{}", runs::words::text(&runs::Run::new(book, events)));
+    let (outcome, lent) = runs::outcome(machine::run, &runs::Run::new(book, events));
+    print!("{}", run_words::text(outcome, &lent));
     Ok(())
 }
 

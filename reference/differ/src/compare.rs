@@ -1,8 +1,9 @@
 //! Two implementations on the same inputs by chance.
 
-use reference::book::Refusal;
-use reference::machine::{Lent, Outcome, Runner};
-use reference::{differ, Verdict};
+use reference::cases::differ;
+use reference::model::book::Refusal;
+use reference::model::machine::{Lent, Outcome, Runner};
+use reference::Verdict;
 use std::fmt;
 
 /// What was compared: how many inputs were refused by each number, 0 standing for none, and how

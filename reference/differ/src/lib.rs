@@ -1,7 +1,7 @@
 //! The verified library with the reference's answers.
 
-use reference::book::{self, Refusal};
-use reference::machine::{Lent, Outcome, Ran};
+use reference::model::book::{self, Refusal};
+use reference::model::machine::{Lent, Outcome, Ran};
 use reference::Verdict;
 
 pub fn check(bytes: &[u8]) -> Verdict {

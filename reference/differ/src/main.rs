@@ -7,7 +7,7 @@ mod compare;
 mod tests;
 
 use compare::{Checked, Difference, Tally};
-use reference::{book, machine};
+use reference::model::{book, machine};
 use std::process::ExitCode;
 use std::time::Instant;
 

@@ -2,8 +2,8 @@
 
 use crate::compare::{self, Checked, Difference};
 use crate::{reference_checks, verified_checks};
-use reference::differ::forgetful;
-use reference::machine;
+use reference::cases::differ::forgetful;
+use reference::model::machine;
 use reference::Verdict;
 
 /// A check that accepts nothing.

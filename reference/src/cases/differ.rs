@@ -1,0 +1,128 @@
+//! Runs and books by chance, for comparing two implementations.
+
+mod books;
+
+pub use books::books;
+
+use crate::cases::generate::dice::Dice;
+use crate::cases::generate::Bytes;
+use crate::cases::runs::chance::{any_book, events};
+use crate::cases::runs::lively::Most;
+use crate::cases::runs::{outcome, Run, LONGEST};
+use crate::model::machine::{self, Lent, Outcome, Runner};
+
+/// A run on which the two differ, its number from 0, and what each gives.
+#[derive(Debug)]
+pub struct Difference {
+    pub number: usize,
+    pub run: Run,
+    pub one: (Outcome, Lent),
+    pub other: (Outcome, Lent),
+}
+
+/// Runs without end, the same for the same seed, which must not be 0.
+fn runs(seed: u64) -> impl Iterator<Item = Run> {
+    let mut dice = Dice::new(seed);
+    (0..).map(move |number| any_run(&mut dice, number))
+}
+
+/// The first difference in so many runs. What both give on a run before it goes to `same`. The seed
+/// must not be 0.
+pub fn differ(
+    seed: u64,
+    count: usize,
+    one: Runner,
+    other: Runner,
+    mut same: impl FnMut(&(Outcome, Lent)),
+) -> Option<Difference> {
+    let mut runs = runs(seed).take(count).enumerate();
+    runs.find_map(|(number, run)| {
+        let (one, other) = (outcome(one, &run), outcome(other, &run));
+        if one == other {
+            same(&one);
+            return None;
+        }
+        Some(Difference {
+            number,
+            run,
+            one,
+            other,
+        })
+    })
+}
+
+/// A run that keeps its answers for itself: a wrong one, for tests that a difference is found.
+pub fn forgetful(book: &[u8], events: &[u8], lent: &mut Lent) -> Outcome {
+    let answers = lent[2].clone();
+    let outcome = machine::run(book, events, lent);
+    lent[2] = answers;
+    outcome
+}
+
+/// How large the lively books are.
+const LIVELY: Most = Most {
+    cells: 6,
+    blocks: 5,
+    steps: 12,
+};
+
+/// Mostly a run that is not refused.
+fn any_run(dice: &mut Dice, number: usize) -> Run {
+    let mut book = any_book(dice, number, LIVELY);
+    let count = match dice.below(20) {
+        0 => dice.below(400),
+        _ => dice.below(60),
+    };
+    let mut events = events(dice, &book, count);
+    match dice.below(40) {
+        0 => change(dice, &mut events),
+        1 => change(dice, &mut book),
+        _ => {}
+    }
+    let run = Run::new(book, events);
+    match dice.below(40) {
+        0 => run.with(any_lengths(dice, run.lengths)),
+        _ => run.with_spare(dice.below(3)),
+    }
+}
+
+/// A byte changed, removed or put in, or the end cut off.
+fn change(dice: &mut Dice, bytes: &mut Bytes) {
+    let place = dice.below(bytes.len() + 1);
+    match dice.below(4) {
+        0 => bytes.truncate(place),
+        1 => bytes.insert(place, dice.byte()),
+        2 if place < bytes.len() => bytes[place] = dice.byte(),
+        _ if place < bytes.len() => drop(bytes.remove(place)),
+        _ => {}
+    }
+}
+
+/// The lengths with one of them changed.
+fn any_lengths(dice: &mut Dice, mut lengths: [usize; 3]) -> [usize; 3] {
+    let which = dice.below(3);
+    lengths[which] = match dice.below(3) {
+        0 => lengths[which].saturating_sub(1),
+        1 => lengths[which] + 1,
+        _ => dice.below(LONGEST[which]),
+    };
+    lengths
+}
+
+#[cfg(test)]
+mod tests {
+    use super::*;
+    use crate::model::machine::fast;
+
+    #[test]
+    fn the_two_machines_do_not_differ() {
+        assert!(differ(1, 5_000, machine::run, fast::run, |_| {}).is_none());
+    }
+
+    #[test]
+    fn a_difference_is_found() {
+        let found = differ(1, 50, machine::run, forgetful, |_| {}).unwrap();
+        assert_eq!(found.one.0, found.other.0);
+        assert_ne!(found.one.1, found.other.1);
+    }
+}

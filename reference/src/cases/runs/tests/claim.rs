@@ -1,0 +1,64 @@
+//! "What demand 3 speaks of": the tables of an accepted book's runs, after every event.
+
+use super::*;
+use crate::cases::generate::dice::Dice;
+use crate::cases::runs::chance::{any_book, events};
+use crate::cases::runs::lively::Most;
+
+/// "Where a cell's trust is above C, its label and its value's source are at least that trust.
+/// Where a job's label is above C, its source is at least that label."
+fn holds(machine: &Machine) -> bool {
+    let c = machine.book.c;
+    let cells = machine.cells.iter().all(|cell| {
+        let source = cell.value.history.source();
+        cell.trust <= c || (cell.label >= cell.trust && source >= cell.trust)
+    });
+    let mut jobs = machine.jobs.iter();
+    cells && jobs.all(|job| job.label <= c || job.history.source() >= job.label)
+}
+
+/// Whether it holds in a run from its beginning on.
+fn holds_in(run: &Run) -> bool {
+    let mut sound = match admitted(&run.book, &[]) {
+        Ok((book, _)) => holds(&Machine::new(&book)),
+        Err(_) => true,
+    };
+    trace(run, |_, machine| sound &= holds(machine));
+    sound
+}
+
+fn accepted(book: &[u8]) -> bool {
+    matches!(check(book), Verdict::Accepted { .. })
+}
+
+#[test]
+fn the_claim_holds_in_runs_of_accepted_books() {
+    for run in all().iter().filter(|run| accepted(&run.book)) {
+        assert!(holds_in(run), "{run:?}");
+    }
+}
+
+#[test]
+fn the_claim_fails_in_some_runs_of_other_books() {
+    let all = all();
+    let others = all.iter().filter(|run| !accepted(&run.book));
+    assert!(others.filter(|run| !holds_in(run)).count() >= 100);
+}
+
+#[test]
+fn the_claim_holds_in_runs_by_chance() {
+    let mut dice = Dice::new(0x5EED_0050);
+    let most = Most {
+        cells: 6,
+        blocks: 5,
+        steps: 16,
+    };
+    for _ in 0..5_000 {
+        // Of these numbers, 0 asks for an accepted book.
+        let book = any_book(&mut dice, 0, most);
+        assert!(accepted(&book));
+        let events = events(&mut dice, &book, 80);
+        let run = Run::new(book, events);
+        assert!(holds_in(&run), "{run:?}");
+    }
+}

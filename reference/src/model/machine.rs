@@ -1,0 +1,75 @@
+//! "The machine" of document 01: a run of a readable book on a list of events, refusals 9 to 11,
+//! and the tables that a run leaves.
+
+mod acts;
+mod cause;
+pub mod event;
+pub mod fast;
+mod history;
+mod outsider;
+mod state;
+mod steps;
+mod tables;
+#[cfg(test)]
+mod tests;
+
+pub use cause::{Cause, Why};
+pub use history::History;
+pub use state::{Actor, Cell, Datum, Job, Machine, Value};
+pub use tables::{CELLS_SIZE, CELL_SIZE, JOBS_SIZE, JOB_SIZE};
+
+use crate::model::book::{self, refuse, Book, Refusal};
+use event::Event;
+
+/// "The tables only grow, to 64 cells and 64 jobs in a run."
+pub const TABLE: usize = 64;
+
+/// "The run's result gives the cells and jobs in use."
+#[derive(Clone, Copy, Debug, PartialEq, Eq)]
+pub struct Ran {
+    pub cells: usize,
+    pub jobs: usize,
+}
+
+/// What a run answers. On a refusal nothing is written.
+pub type Outcome = Result<Ran, Refusal>;
+
+/// The lent buffers: the cell table, the job table, the answers.
+pub type Lent = [Vec<u8>; 3];
+
+/// How a book is run: `run`, or another implementation.
+pub type Runner = fn(&[u8], &[u8], &mut Lent) -> Outcome;
+
+/// Runs a book on a list of events, both as bytes.
+pub fn run(book: &[u8], events: &[u8], [cells, jobs, answers]: &mut Lent) -> Outcome {
+    let (book, events) = admitted(book, events)?;
+    check_tables(cells, jobs)?;
+    check_answers(answers, events.len())?;
+    let mut machine = Machine::new(&book);
+    for (answer, event) in answers.iter_mut().zip(events) {
+        *answer = machine.take(event).answer();
+    }
+    tables::write(&machine, cells, jobs);
+    Ok(machine.in_use())
+}
+
+/// Refusals 1 to 6 of the book, then 9 of the list.
+pub fn admitted(book: &[u8], events: &[u8]) -> Result<(Book, Vec<Event>), Refusal> {
+    Ok((book::read(book)?, event::split(events)?))
+}
+
+/// Refusal 10: "The cell or job table has not exactly 64 entries."
+fn check_tables(cells: &[u8], jobs: &[u8]) -> Result<(), Refusal> {
+    if cells.len() != CELLS_SIZE || jobs.len() != JOBS_SIZE {
+        return refuse(10, 0);
+    }
+    Ok(())
+}
+
+/// Refusal 11: "The answer buffer has fewer bytes than the list has events."
+fn check_answers(answers: &[u8], events: usize) -> Result<(), Refusal> {
+    if answers.len() < events {
+        return refuse(11, 0);
+    }
+    Ok(())
+}

@@ -1,0 +1,7 @@
+//! What prints answers: lines for comparing, and words for reading.
+
+pub mod answer;
+pub mod checksum;
+pub mod listing;
+pub mod run_answer;
+pub mod run_words;

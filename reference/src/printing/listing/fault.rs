@@ -1,0 +1,111 @@
+//! The words of a record at fault: what stands there, and what the refusal means of it.
+
+use super::{whole, words, Numbers};
+use crate::model::book::record::Content;
+use crate::model::book::{Refusal, Shape, Step};
+
+pub fn words(bytes: &[u8], numbers: Numbers, refusal: Refusal) -> String {
+    let Refusal { number, place } = refusal;
+    let (stands, reason) = match (number, bytes.get(place)) {
+        (1, _) => (
+            "start of the book".to_string(),
+            "the book is longer than 32768 bytes",
+        ),
+        (2, Some(&kind)) => unreadable(kind),
+        (_, None) => ("end of the book".to_string(), missing(place)),
+        (_, Some(_)) => {
+            let content = &whole(&bytes[place..])[0].content;
+            (words::record(content, numbers), reason(content, refusal))
+        }
+    };
+    format!("{stands}  <- refused {number}: {reason}")
+}
+
+/// Refusal 2: "A kind is none of the above, or the book ends inside a body."
+fn unreadable(kind: u8) -> (String, &'static str) {
+    match name(kind) {
+        Some(name) => (
+            format!("kind {kind} ({name})"),
+            "the book ends inside the record",
+        ),
+        None => (format!("kind {kind}"), "no record has this kind"),
+    }
+}
+
+/// "Kinds in decimal."
+fn name(kind: u8) -> Option<&'static str> {
+    const STEPS: [&str; 11] = [
+        "put", "name", "code", "add", "new", "read", "write", "relabel", "lower", "start", "exec",
+    ];
+    match kind {
+        1 => Some("C"),
+        16 => Some("plain shape"),
+        17 => Some("code shape"),
+        18 => Some("cell shape"),
+        32 => Some("cell"),
+        48 => Some("block"),
+        _ => STEPS.get(usize::from(kind.checked_sub(64)?)).copied(),
+    }
+}
+
+/// Refusal 3 at the end of a book.
+fn missing(length: usize) -> &'static str {
+    if length == 0 {
+        "the first record is missing"
+    } else {
+        "no block stands"
+    }
+}
+
+/// What a refusal by 3 to 8 means of a record.
+fn reason(content: &Content, refusal: Refusal) -> &'static str {
+    match refusal {
+        Refusal {
+            number: 3,
+            place: 0,
+        } => "the first record is not C",
+        Refusal { number: 3, .. } => "the record is out of order",
+        Refusal { number: 4, .. } => beyond(content),
+        Refusal { number: 5, .. } => above(content),
+        Refusal { number: 6, .. } => unnamed(content),
+        Refusal { number: 7, .. } => "a cell declaration breaks its typing rule",
+        _ => "a step breaks its typing rule",
+    }
+}
+
+/// Refusal 4: "A record is beyond 32 shapes, 32 cells, 64 blocks or 64 steps in a block."
+fn beyond(content: &Content) -> &'static str {
+    match content {
+        Content::C(_) => unreachable!("C is not counted"),
+        Content::Shape(_) => "more than 32 shapes",
+        Content::Cell(_) => "more than 32 cells",
+        Content::Block { .. } => "more than 64 blocks",
+        Content::Step(_) => "more than 64 steps in a block",
+    }
+}
+
+/// Refusal 5: "A label, bound or trust is above 15, C above 14, a register above 7, or a value
+/// kind above 2."
+fn above(content: &Content) -> &'static str {
+    match content {
+        Content::C(_) => "C is above 14",
+        Content::Shape(Shape::Cell { .. }) => "the trust is above 15",
+        Content::Shape(_) | Content::Block { .. } => "the bound is above 15",
+        Content::Cell(_) => "the label is above 15 or the value kind above 2",
+        Content::Step(Step::Lower { .. }) => "the label is above 15",
+        Content::Step(Step::Relabel { .. }) => "the register is above 7 or the label above 15",
+        Content::Step(_) => "a register is above 7",
+    }
+}
+
+/// Refusal 6: "A content shape is not lower-numbered than its cell shape, a cell or new names no
+/// cell shape, or a declared cell or block number does not exist."
+fn unnamed(content: &Content) -> &'static str {
+    match content {
+        Content::Shape(_) => "the content shape is not lower-numbered",
+        Content::Cell(_) => "the shape is no cell shape, or the value names what does not exist",
+        Content::Step(Step::New { .. }) => "the shape is no cell shape",
+        Content::Step(Step::Name { .. }) => "the cell does not exist",
+        _ => "the block does not exist",
+    }
+}
