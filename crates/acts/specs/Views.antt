@@ -1,14 +1,14 @@
 -- The records of the code, as the machine's over sources.
---     valueIn, storedOf, cellOf, jobOf     a value, a cell, a job
---     actor, registerIn                    a job by what a step looks at; a register of it
---     nearby                               a state in which every cell is the one that an act reaches
---     storedContent, cellWith                  the content of a cell; a cell of this content
---     effectOf, jobAfter, turnTaken        what an effect is to the tables, where cell k is reached; to the job that acts; both
---     sortOf, Only                         the sort of an effect; one that is blocked or of one sort
---     answerOf                             the answer to an event of this effect
---     settled                              a turn, where the job waits if it is blocked
---     Does, Makes                          contracts: an act on a cell or of start; new
---     clamped                              an entry of a table
+--     valueIn, storedOf, cellOf, jobOf    a value, a cell, a job
+--     actor, registerIn                   a job by what a step looks at; a register of it
+--     nearby                              a state in which every cell is the one that an act reaches
+--     storedContent, cellWith             the content of a cell; a cell of this content
+--     effectOf, jobAfter, turnTaken       what an act is to the tables, where cell k is reached; to the job that acts; both
+--     sortOf, Only                        the sort of an act; one that is blocked or of one sort
+--     answerOf                            the answer to an event of this act
+--     settled                             a turn, where the job waits if it is blocked
+--     Does, Makes                         contracts: an act on a cell or of start; new
+--     clamped                             an entry of a table
 -- Assumes nothing.
 use Prim.Native.Nat.{ℕ, suc}
 use mathlib.Core.Path.{_≡_}
@@ -28,7 +28,7 @@ use Rattle.machine.specs.Acts.{blocked, keep, store, create, launch, zeroWith, 
 use Rattle.machine.specs.Acts as Acts
 use Rattle.machine.specs.Steps.{turn, moved, gets}
 use Rattle.machine.specs.Steps as Steps
-use Rattle.machine.specs.Events.{tableSize, done, stopped}
+use Rattle.machine.specs.Events.{tableSize, done, blockedAnswer}
 use Rattle.acts.specs.declared.Stored.{Stored}
 use Rattle.acts.specs.declared.StoredCell.{StoredCell}
 use Rattle.acts.specs.declared.StoredJob.{StoredJob}
@@ -77,7 +77,7 @@ effectOf k (Launch b l h) = launch (freshJob sources b l h)
 
 -- the answer to it
 unfoldable pub answerOf : Act → ℕ
-answerOf Blocked = stopped
+answerOf Blocked = blockedAnswer
 answerOf (Give r v) = done
 answerOf (Lower q h) = done
 answerOf (Store c) = done
@@ -115,7 +115,7 @@ settled j t = record { job = kept j (t .job) (t .effect); effect = t .effect }
 abbrev pub clamped : ℕ → ℕ
 clamped k = if ltb k tableSize then k else 0
 
--- the sorts of effects, by the number of each in the enum
+-- the sorts of acts, by the number of each in the enum
 abbrev pub giveSort : ℕ
 giveSort = 1
 
@@ -144,7 +144,7 @@ pub data Only (n : ℕ) (x : Act) : Type 0 where
   waits : sortOf x ≡ 0 → Only n x
   acts : sortOf x ≡ n → Only n x
 
--- x is the effect e of an act in the state s, where cell k is reached, whichever job acts; it is blocked or of sort n
+-- act x has the effect e in the state s, where cell k is reached, whichever job acts; it is blocked or of sort n
 pub record Does (n : ℕ) (s : State Label) (k : ℕ) (e : Acts.Effect Label) (x : Act) : Type 0 where
   pub does : (j : States.Job Label) → turnTaken s j k x ≡ settled j (turn sources (moved sources j) e)
   pub only : Only n x

@@ -1,20 +1,16 @@
 // One act of a run on what it reaches: what it looks at of the job that acts, and one cell, both by value.
-mod effects;
+mod acts;
 mod registers;
 
+pub use acts::answer_of;
+pub use acts::clamp;
+pub use acts::exec_cell;
+pub use acts::is_open;
+pub use acts::make_cell;
+pub use acts::relabel_cell;
+pub use acts::start_job;
+pub use acts::write_cell;
 use labels::Label;
-ghost use mathlib.Core.Path.{_≡_};
-ghost use Rattle.machine.specs.Histories.{sources};
-ghost use Rattle.machine.specs.Acts.{freshJob};
-ghost use Prim.Native.Nat.{_<_};
-ghost use Rattle.acts.specs.Views.{jobOf, clamped};
-pub use effects::answer_of;
-pub use effects::exec_cell;
-pub use effects::is_open;
-pub use effects::make_cell;
-pub use effects::relabel_cell;
-pub use effects::start_job;
-pub use effects::write_cell;
 pub use registers::acted;
 pub use registers::content_of;
 pub use registers::gets;
@@ -67,21 +63,6 @@ impl StoredJob {
     pub const BYTES: usize = 52;
 
     pub const TABLE_BYTES: usize = 3328;
-
-    // A job at the start of its block, which stands at an offset of the book.
-    pub fn fresh(block: u32, at: usize, label: Label, source: Label) -> StoredJob
-        ensures { λ x. ⌜ (jobOf x ≡ freshJob sources block label source) × (x .at ≡ at) × (x .position ≡ 0) × (x .block ≡ block) ⌝ }
-    {
-        let zero = registers::zero_with(source);
-        StoredJob {
-            registers: [zero; 8],
-            at: at,
-            block: block,
-            position: 0,
-            label: label,
-            source: source,
-        }
-    }
 }
 
 // What an act looks at: the cell that it reaches, and how many cells and jobs are in use.
@@ -100,14 +81,4 @@ pub enum Act {
     Store(StoredCell),
     Create(u8, StoredCell),
     Launch(u32, Label, Label),
-}
-
-// A number in a table of 64.
-pub fn clamp(k: usize) -> usize
-    ensures { λ r. ⌜ (r ≡ clamped k) × (r < 64) ⌝ }
-{
-    if k < StoredJob::TABLE_SIZE {
-        return k;
-    }
-    0
 }

@@ -8,7 +8,7 @@ ghost use mathlib.Core.Path.{_≡_};
 ghost use Prim.Native.Nat.{_<_, _≤_};
 ghost use Rattle.book.specs.declared.Value.the-variants.{CellName};
 ghost use Rattle.machine.specs.Histories.{sources};
-ghost use Rattle.machine.specs.Acts.{acted, zeroWith};
+ghost use Rattle.machine.specs.Acts.{acted, zeroWith, freshJob};
 ghost use Rattle.machine.specs.Steps.{moved, gets};
 ghost use Rattle.machine.specs.Records.{kindOf};
 ghost use Rattle.acts.specs.Views.{valueIn, storedOf, storedContent, cellWith, jobOf, registerIn, lowered};
@@ -80,6 +80,23 @@ pub fn kind_of(v: Stored) -> u8
         return v.kind;
     }
     value_kind::CODE
+}
+
+impl StoredJob {
+    // A job at the start of its block, which stands at an offset of the book.
+    pub fn fresh(block: u32, at: usize, label: Label, source: Label) -> StoredJob
+        ensures { λ x. ⌜ (jobOf x ≡ freshJob sources block label source) × (x .at ≡ at) × (x .position ≡ 0) × (x .block ≡ block) ⌝ }
+    {
+        let zero = zero_with(source);
+        StoredJob {
+            registers: [zero; 8],
+            at,
+            block,
+            position: 0,
+            label,
+            source,
+        }
+    }
 }
 
 // The step is done, and the next one is at an offset of the book.

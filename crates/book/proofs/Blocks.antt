@@ -12,6 +12,7 @@ use native.Mathlib.Omega.{arith}
 use lib.Dec.{ltb}
 use lib.ListN.{length, getD, take, drop, replicate}
 use borrow.Author.Tests.{lt-ltb, le-ltb, ltb-true, ltb-false, eqb-true}
+use Rattle.labels.proofs.Impossible.{impossible}
 use Rattle.book.specs.declared.Fault.the-variants.{Nowhere}
 use Rattle.book.specs.declared.Refusal.{Refusal}
 use Rattle.book.specs.declared.Refusal.the-variants.{Passed, Refused}
@@ -47,7 +48,7 @@ module _ (s : List ℕ) (g : ℕ) where
       go : (b : Bool) → ltb a (length s) ≡ b → (d : Bool) → inGroup s g o ≡ d → (i : ℕ) → i < length (those (inGroup s g) (o ∷ os))
           → (recordsFrom s (next s a) ≡ os → Whole s (next s a) → (i : ℕ) → i < length (those (inGroup s g) os) → Stands s g (getD (those (inGroup s g) os) i 0))
           → Stands s g (getD (those (inGroup s g) (o ∷ os)) i 0)
-      go false l d q i h r = let x : o ∷ os ≡ [] = sym e ∙ records-end s a (ltb-false _ _ l) in let z : _≡_ {A = ℕ} 0 1 = cc in absurd (omega arith)
+      go false l d q i h r = let x : o ∷ os ≡ [] = sym e ∙ records-end s a (ltb-false _ _ l) in impossible cc
       go true l true q zero h r =
           let n : a < length s = ltb-true _ _ l in
           let x : o ∷ os ≡ a ∷ recordsFrom s (next s a) = sym e ∙ walk s a w n .list in
@@ -100,8 +101,7 @@ module _ (s : List ℕ) (r : Reading) (er : r ≡ reading s) where
       go (Refused n o) q =
           let y : r ≡ readingOf (Refused n o) s = er ∙ ap (λ (x : Refusal). readingOf x s) q in
           let z : r .refusal ≡ Refused n o = ap (λ (x : Reading). x .refusal) y in
-          let c : _≡_ {A = ℕ} 0 1 = cc in
-          absurd (omega arith)
+          impossible cc
 
   pub outline-is : r .refusal ≡ Passed → r .outline ≡ outlineOf s
   unfolding readingOf
@@ -121,8 +121,7 @@ module _ (s : List ℕ) (r : Reading) (er : r ≡ reading s) where
       go : (x : Refusal) → unreadable s ≡ x → f ≡ foundIn (unreadable s) s i
       go Passed q =
           let y : r .refusal ≡ Passed = ap (λ (x : Reading). x .refusal) (er ∙ ap (λ (x : Refusal). readingOf x s) q) in
-          let c : _≡_ {A = ℕ} 0 1 = cc in
-          absurd (omega arith)
+          impossible cc
       go (Refused m p) q =
           let y : r .refusal ≡ Refused m p = ap (λ (x : Reading). x .refusal) (er ∙ ap (λ (x : Refusal). readingOf x s) q) in
           let a : n ≡ m = cc in
@@ -135,14 +134,14 @@ module _ (s : List ℕ) (r : Reading) (er : r ≡ reading s) where
     found-missing f h ef = ef ∙ simp (passed e, le-ltb i (length (blocksOf s)) (omega (arith, blocks-are e)))
 
     pub found-there : i < r .outline .counts .blocks
-        → record { refusal = Passed; start = getD (r .outline .start) i 0; length = getD (r .outline .length) i 0 } ≡ foundBlock s i
+        → record { refusal = Passed; start = getD (r .outline .starts) i 0; length = getD (r .outline .lengths) i 0 } ≡ foundBlock s i
     unfolding foundIn outlineOf
     found-there h =
         let l : i < length (blocksOf s) = omega (arith, blocks-are e) in
-        let x : getD (r .outline .start) i 0 ≡ startAt (getD (blocksOf s) i 0)
-        = ap (λ (t : Outline). getD (t .start) i 0) (outline-is e) ∙ entry-at startAt 0 64 i (blocksOf s) l in
-        let y : getD (r .outline .length) i 0 ≡ lengthAt s (getD (blocksOf s) i 0)
-        = ap (λ (t : Outline). getD (t .length) i 0) (outline-is e) ∙ entry-at (lengthAt s) 0 64 i (blocksOf s) l in
+        let x : getD (r .outline .starts) i 0 ≡ startAt (getD (blocksOf s) i 0)
+        = ap (λ (t : Outline). getD (t .starts) i 0) (outline-is e) ∙ entry-at startAt 0 64 i (blocksOf s) l in
+        let y : getD (r .outline .lengths) i 0 ≡ lengthAt s (getD (blocksOf s) i 0)
+        = ap (λ (t : Outline). getD (t .lengths) i 0) (outline-is e) ∙ entry-at (lengthAt s) 0 64 i (blocksOf s) l in
         simp (passed e, lt-ltb _ _ l, x, y)
 
 pub ruleset founds = (found-refused, found-missing, found-there)

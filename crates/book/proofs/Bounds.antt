@@ -1,12 +1,12 @@
 -- How large a book's numbers are: no place is past its end, and it has no more records than bytes.
---     Below, Placed               the members of a list, the place of a fault: at most a number
---     sweep-placed, sweep-clean   a stage is at fault at a record, or where its end is
---     offsets-below, few-offsets  records by any span
---     group-below, steps-below    the records of a group, the steps of a block
---     steps-short                 how many steps the blocks have
---     stage, none-refused         the place of a refusal by one stage, where that of the stages after it is told
---     refused-short               the place of a refusal by 1 to 6
---     found-place, found-short    the place of a refusal by 1 to 6 or 12; a block's stretch
+--     Below, PlacedIn               the members of a list, the place of a fault: at most a number
+--     sweep-placed, sweep-clean     a stage is at fault at a record, or where its end is
+--     offsets-below, few-offsets    records by any span
+--     group-below, steps-below      the records of a group, the steps of a block
+--     steps-short                   how many steps the blocks have
+--     stage, none-refused           the place of a refusal by one stage, where that of the stages after it is told
+--     refused-short                 the place of a refusal by 1 to 6
+--     found-place, found-short      the place of a refusal by 1 to 6 or 12; a block's stretch
 -- Assumes nothing.
 use mathlib.Core.Path.{_≡_, refl, ap, _∙_}
 use mathlib.Core.Bool.{Bool, true, false}
@@ -16,6 +16,7 @@ use native.Mathlib.Omega.{arith}
 use lib.Dec.{ltb, eqb}
 use lib.ListN.{length}
 use borrow.Author.Tests.{ltb-true, ltb-false}
+use Rattle.labels.proofs.Impossible.{impossible}
 use Rattle.book.specs.declared.Fault.{Fault}
 use Rattle.book.specs.declared.Fault.the-variants.{Nowhere, At}
 use Rattle.book.specs.declared.Refusal.{Refusal}
@@ -38,13 +39,13 @@ pub data Below (l : ℕ) : List ℕ → Type 0 where
   more : {o : ℕ} {os : List ℕ} → o ≤ l → Below l os → Below l (o ∷ os)
 
 -- a fault is at most at l
-abbrev pub Placed : ℕ → Fault → Type 0
-Placed l f = (o : ℕ) → f ≡ At o → o ≤ l
+abbrev pub PlacedIn : ℕ → Fault → Type 0
+PlacedIn l f = (o : ℕ) → f ≡ At o → o ≤ l
 
-pub nowhere-placed : (l : ℕ) → Placed l Nowhere
-nowhere-placed l o e = let z : _≡_ {A = ℕ} 0 1 = cc in absurd (omega arith)
+pub nowhere-placed : (l : ℕ) → PlacedIn l Nowhere
+nowhere-placed l o e = impossible cc
 
-pub at-placed : (l p : ℕ) → p ≤ l → Placed l (At p)
+pub at-placed : (l p : ℕ) → p ≤ l → PlacedIn l (At p)
 at-placed l p h o e = let z : p ≡ o = cc in omega arith
 
 module _ (f : ℕ → Bool) (l : ℕ) where
@@ -75,19 +76,19 @@ while-few f (o ∷ os) = go (f o) refl (while-few f os)
     go true e i = simp (while, e) (omega arith)
     go false e i = simp (while, e) (omega arith)
 
-module _ {S : Type 0} (bad : S → ℕ → Bool) (on : S → ℕ → S) (end : S → Fault) (l : ℕ) (ends : (t : S) → Placed l (end t)) where
-  pub sweep-placed : {os : List ℕ} → Below l os → (t : S) → Placed l (sweep bad on end t os)
+module _ {S : Type 0} (bad : S → ℕ → Bool) (on : S → ℕ → S) (end : S → Fault) (l : ℕ) (ends : (t : S) → PlacedIn l (end t)) where
+  pub sweep-placed : {os : List ℕ} → Below l os → (t : S) → PlacedIn l (sweep bad on end t os)
   unfolding sweep
   sweep-placed none t = ends t
   sweep-placed (more {o} {os} h r) t = go (bad t o) refl (sweep-placed r (on t o))
     where
-      go : (b : Bool) → bad t o ≡ b → Placed l (sweep bad on end (on t o) os) → Placed l (sweep bad on end t (o ∷ os))
+      go : (b : Bool) → bad t o ≡ b → PlacedIn l (sweep bad on end (on t o) os) → PlacedIn l (sweep bad on end t (o ∷ os))
       go true e i = simp (sweep, e) (at-placed l o h)
       go false e i = simp (sweep, e) i
 
 -- a stage whose end is never at fault
 pub sweep-clean : {S : Type 0} (bad : S → ℕ → Bool) (on : S → ℕ → S) (l : ℕ) {os : List ℕ} → Below l os → (t : S)
-    → Placed l (sweep bad on (λ u. Nowhere) t os)
+    → PlacedIn l (sweep bad on (λ u. Nowhere) t os)
 sweep-clean bad on l r t = sweep-placed bad on (λ u. Nowhere) l (λ u. nowhere-placed l) r t
 
 -- of records by any span
@@ -147,37 +148,37 @@ module _ (s : List ℕ) where
   steps-short h (o ∷ os) = let r = steps-short h os in let k = few-steps (o + 2) in omega arith
 
 -- a refusal is at most at l
-pub stage : (l m : ℕ) (f : Fault) (r : Refusal) → Placed l f → ((n o : ℕ) → r ≡ Refused n o → o ≤ l) → (n o : ℕ) → orRefuse m f r ≡ Refused n o → o ≤ l
+pub stage : (l m : ℕ) (f : Fault) (r : Refusal) → PlacedIn l f → ((n o : ℕ) → r ≡ Refused n o → o ≤ l) → (n o : ℕ) → orRefuse m f r ≡ Refused n o → o ≤ l
 unfolding orRefuse
 stage l m Nowhere r p q n o e = q n o e
 stage l m (At k) r p q n o e = let z : k ≡ o = cc in let h = p k refl in omega arith
 
 pub none-refused : (l n o : ℕ) → Passed ≡ Refused n o → o ≤ l
-none-refused l n o e = let z : _≡_ {A = ℕ} 0 1 = cc in absurd (omega arith)
+none-refused l n o e = impossible cc
 
 -- refusals 1 to 6
 module _ (s : List ℕ) where
-  cut-placed : Placed (length s) (cutFault s)
+  cut-placed : PlacedIn (length s) (cutFault s)
   unfolding cutFault
   cut-placed = sweep-clean _ _ (length s) (records-below s 0) tt
 
-  order-placed : Placed (length s) (orderFault s)
+  order-placed : PlacedIn (length s) (orderFault s)
   unfolding orderFault misplaced
   order-placed = sweep-placed _ _ _ (length s) (λ p. ends (eqb p 4)) (records-below s 0) 0
     where
-      ends : (b : Bool) → Placed (length s) (if b then Nowhere else At (length s))
+      ends : (b : Bool) → PlacedIn (length s) (if b then Nowhere else At (length s))
       ends true = nowhere-placed (length s)
       ends false = at-placed (length s) (length s) (omega arith)
 
-  count-placed : Placed (length s) (countFault s)
+  count-placed : PlacedIn (length s) (countFault s)
   unfolding countFault beyond
   count-placed = sweep-clean _ _ (length s) (records-below s 0) _
 
-  range-placed : Placed (length s) (rangeFault s)
+  range-placed : PlacedIn (length s) (rangeFault s)
   unfolding rangeFault
   range-placed = sweep-clean _ _ (length s) (records-below s 0) tt
 
-  name-placed : Placed (length s) (nameFault s)
+  name-placed : PlacedIn (length s) (nameFault s)
   unfolding nameFault dangles
   name-placed = sweep-clean _ _ (length s) (records-below s 0) 0
 
@@ -214,8 +215,7 @@ module _ (s : List ℕ) (i : ℕ) (f : Found) (ef : f ≡ foundBlock s i) where
           omega (arith, refused-short s m p q)
       go Passed q true l =
           let y : f .refusal ≡ Passed = ap (λ (f : Found). f .refusal) (simp l at (there Passed q)) in
-          let z : _≡_ {A = ℕ} 0 1 = cc in
-          absurd (omega arith)
+          impossible cc
       go Passed q false l =
           let y : f .refusal ≡ Refused 12 0 = ap (λ (f : Found). f .refusal) (simp l at (there Passed q)) in
           let z : 0 ≡ o = cc in
@@ -228,8 +228,7 @@ module _ (s : List ℕ) (i : ℕ) (f : Found) (ef : f ≡ foundBlock s i) where
       go : (x : Refusal) → unreadable s ≡ x → f .start + f .length ≤ 32768
       go (Refused m p) q =
           let y : f .refusal ≡ Refused m p = ap (λ (f : Found). f .refusal) (there (Refused m p) q) in
-          let z : _≡_ {A = ℕ} 0 1 = cc in
-          absurd (omega arith)
+          impossible cc
       go Passed q =
           let h : f .start + f .length ≤ length s = rw ef (within s i) in
           omega (arith, readable s q .short)

@@ -3,13 +3,14 @@
 --     found, found-steps         the step or the declared cell at an offset, if one stands there
 -- Assumes nothing.
 use mathlib.Core.Path.{_≡_, refl, sym, _∙_}
-use mathlib.Core.Bool.{Bool, true, false, _||_}
+use mathlib.Core.Bool.{Bool, true, false}
 use mathlib.Core.List.{List}
 use Prim.Native.Nat.{ℕ, _+_, _-_, _≤_, _<_}
 use native.Mathlib.Omega.{arith}
-use lib.Dec.{eqb, ltb}
-use lib.ListN.{length, replicate}
+use lib.Dec.{ltb}
+use lib.ListN.{length}
 use borrow.Author.Tests.{eq-eqb, ne-eqb, lt-ltb, le-ltb, ltb-true, eqb-true}
+use Rattle.labels.proofs.Impossible.{impossible}
 use Rattle.labels.specs.Labels.{label, trust}
 use Rattle.book.specs.declared.Value.{Value}
 use Rattle.book.specs.declared.Value.the-variants.{Plain, CellName, CodeName}
@@ -158,9 +159,9 @@ stood-span s o e = go (ltb o (length s)) refl (inGroup s 5 o) refl (cut s o) ref
   where
     go : (a : Bool) → ltb o (length s) ≡ a → (b : Bool) → inGroup s 5 o ≡ b → (c : Bool) → cut s o ≡ c → 0 < next s o
     go true h true g false q = omega (arith, uncut-span span s o q)
-    go true h true g true q = let y : false ≡ true = simp (h, g, q) at e in let z : _≡_ {A = ℕ} 0 1 = cc in absurd (omega arith)
-    go true h false g c q = let y : false ≡ true = simp (h, g) at e in let z : _≡_ {A = ℕ} 0 1 = cc in absurd (omega arith)
-    go false h b g c q = let y : false ≡ true = simp h at e in let z : _≡_ {A = ℕ} 0 1 = cc in absurd (omega arith)
+    go true h true g true q = let y : false ≡ true = simp (h, g, q) at e in impossible cc
+    go true h false g c q = let y : false ≡ true = simp (h, g) at e in impossible cc
+    go false h b g c q = let y : false ≡ true = simp h at e in impossible cc
 
 module _ (s : List ℕ) (o : ℕ) where
   no-end : stands s 5 o ≡ false → 0 ≡ stepEnd s o
@@ -248,9 +249,9 @@ found-next s o n p x ex e = go (ltb o (length s)) refl (inGroup s 5 o) refl (cut
         let y : StepThere (stepAt s o) (next s o) ≡ StepThere p n = sym (simp (h, g, q) at ex) ∙ e in
         let z : next s o ≡ n = cc in
         (omega (arith, uncut-span span s o q), omega (arith, uncut-inside span s o q))
-    go true h true g true q = let y : NoStep ≡ StepThere p n = sym (simp (h, g, q) at ex) ∙ e in let z : _≡_ {A = ℕ} 0 1 = cc in absurd (omega arith)
-    go true h false g c q = let y : NoStep ≡ StepThere p n = sym (simp (h, g) at ex) ∙ e in let z : _≡_ {A = ℕ} 0 1 = cc in absurd (omega arith)
-    go false h b g c q = let y : NoStep ≡ StepThere p n = sym (simp h at ex) ∙ e in let z : _≡_ {A = ℕ} 0 1 = cc in absurd (omega arith)
+    go true h true g true q = let y : NoStep ≡ StepThere p n = sym (simp (h, g, q) at ex) ∙ e in impossible cc
+    go true h false g c q = let y : NoStep ≡ StepThere p n = sym (simp (h, g) at ex) ∙ e in impossible cc
+    go false h b g c q = let y : NoStep ≡ StepThere p n = sym (simp h at ex) ∙ e in impossible cc
 
 module _ (s : List ℕ) (o n : ℕ) (p : Step) (x : StepAt) (ex : x ≡ stepFound s o) (e : x ≡ StepThere p n) where
   pub found-inside : n ≤ length s

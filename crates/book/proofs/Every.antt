@@ -1,21 +1,25 @@
 -- A predicate at each entry of a list: look-ups, stores, new entries, and what a test picks.
---     All, all-set, .., all-map          a predicate
---     map-all, map-from, mapped          entries of a mapped list
---     those-all, while-all               the members that pass a test; those before the first that does not
+--     All, all-each, .., all-map    a predicate
+--     map-all, map-from, mapped     entries of a mapped list
+--     those-all, while-all          the members that pass a test; those before the first that does not
 -- Assumes nothing.
 use mathlib.Core.Path.{_≡_, refl}
 use mathlib.Core.Bool.{Bool, true, false}
 use mathlib.Core.Option.{some}
 use mathlib.Core.List.{List, [], _∷_, _++_, map, List·Memᴰ, List·Memᴰ·head, List·Memᴰ·tail, List·Memᴰ·not-nil}
 use Prim.Native.Nat.{ℕ, zero, suc}
-use native.Mathlib.Omega.{arith}
 use lib.ListN.{getD, set, replicate, getElem?}
+use Rattle.labels.proofs.Impossible.{impossible}
 use Rattle.book.specs.Control.{those, while}
 
 module _ {A : Type 0} (P : A → Type 0) where
   abbrev pub All : List A → Type 0
   All [] = Unit {0}
   All (x ∷ xs) = P x × All xs
+
+  pub all-each : ((a : A) → P a) → (l : List A) → All l
+  all-each f [] = tt
+  all-each f (x ∷ xs) = (f x, all-each f xs)
 
   pub all-set : (l : List A) (i : ℕ) (a : A) → All l → P a → All (set l i a)
   all-set [] i a h p = h
@@ -27,7 +31,7 @@ module _ {A : Type 0} (P : A → Type 0) where
   all-push (x ∷ xs) a h p = (h .0, all-push xs a (h .1) p)
 
   pub all-at : (l : List A) (i : ℕ) (a : A) → All l → getElem? l i ≡ some a → P a
-  all-at [] i a h e = let z : _≡_ {A = ℕ} 0 1 = cc in absurd (omega arith)
+  all-at [] i a h e = impossible cc
   all-at (x ∷ xs) zero a h e = let z : x ≡ a = cc in rw z at (h .0)
   all-at (x ∷ xs) (suc i) a h e = all-at xs i a (h .1) e
 

@@ -37,38 +37,38 @@ same o = o
 abbrev shapedAt : List ℕ → ℕ → ℕ
 shapedAt s o = byteAt s (o + 1)
 
-pub record Gathered (s : List ℕ) (o : ℕ) (shape cell shaped bound start size : List ℕ) (n : Counts) : Type 0 where
+pub record Gathered (s : List ℕ) (o : ℕ) (shapes offsets shaped bounds starts lengths : List ℕ) (n : Counts) : Type 0 where
   pub inside : o ≤ length s
   pub whole : Whole s o
-  pub shapes : Tabled s (groupOf s 2) (ahead s 2 o) (n .shapes) shape
-  pub cells : Filled 0 32 same (groupOf s 3) (ahead s 3 o) (n .cells) cell
-  pub owners : Filled 0 32 (shapedAt s) (groupOf s 3) (ahead s 3 o) (n .cells) shaped
-  pub bounds : Filled 0 64 (boundAt s) (groupOf s 4) (ahead s 4 o) (n .blocks) bound
-  pub starts : Filled 0 64 startAt (groupOf s 4) (ahead s 4 o) (n .blocks) start
-  pub sizes : Filled 0 64 (lengthAt s) (groupOf s 4) (ahead s 4 o) (n .blocks) size
+  pub shapes-are : Tabled s (groupOf s 2) (ahead s 2 o) (n .shapes) shapes
+  pub offsets-are : Filled 0 32 same (groupOf s 3) (ahead s 3 o) (n .cells) offsets
+  pub shaped-are : Filled 0 32 (shapedAt s) (groupOf s 3) (ahead s 3 o) (n .cells) shaped
+  pub bounds-are : Filled 0 64 (boundAt s) (groupOf s 4) (ahead s 4 o) (n .blocks) bounds
+  pub starts-are : Filled 0 64 startAt (groupOf s 4) (ahead s 4 o) (n .blocks) starts
+  pub lengths-are : Filled 0 64 (lengthAt s) (groupOf s 4) (ahead s 4 o) (n .blocks) lengths
   pub steps : n .steps + stepCount s (ahead s 4 o) ≡ stepCount s (groupOf s 4)
   pub few : n .steps ≤ o
 
-pub gather-start : (s shape cell shaped bound start size : List ℕ) (n : Counts) → Small s → Blank shape cell shaped bound start size → n ≡ noCounts
-    → Gathered s 0 shape cell shaped bound start size n
+pub gather-start : (s shapes offsets shaped bounds starts lengths : List ℕ) (n : Counts) → Small s → Blank shapes offsets shaped bounds starts lengths → n ≡ noCounts
+    → Gathered s 0 shapes offsets shaped bounds starts lengths n
 unfolding groupOf stepCount
-gather-start s shape cell shaped bound start size n h b e =
-    rw (e, b .shapes, b .cells, b .owners, b .bounds, b .starts, b .sizes)
+gather-start s shapes offsets shaped bounds starts lengths n h b e =
+    rw (e, b .no-shapes, b .no-offsets, b .no-shaped, b .no-bounds, b .no-starts, b .no-lengths)
     (record {
       inside = omega arith;
       whole = h .whole;
-      shapes = table-start s (groupOf s 2);
-      cells = fill-start 0 32 same (groupOf s 3);
-      owners = fill-start 0 32 (shapedAt s) (groupOf s 3);
-      bounds = fill-start 0 64 (boundAt s) (groupOf s 4);
-      starts = fill-start 0 64 startAt (groupOf s 4);
-      sizes = fill-start 0 64 (lengthAt s) (groupOf s 4);
+      shapes-are = table-start s (groupOf s 2);
+      offsets-are = fill-start 0 32 same (groupOf s 3);
+      shaped-are = fill-start 0 32 (shapedAt s) (groupOf s 3);
+      bounds-are = fill-start 0 64 (boundAt s) (groupOf s 4);
+      starts-are = fill-start 0 64 startAt (groupOf s 4);
+      lengths-are = fill-start 0 64 (lengthAt s) (groupOf s 4);
       steps = omega arith;
       few = omega arith;
     })
 
-module _ (s : List ℕ) (o : ℕ) (shape cell shaped bound start size : List ℕ) (n : Counts)
-    (k : Gathered s o shape cell shaped bound start size n) (m : Small s) (h : o < length s) (g : ℕ) (eg : g ≡ group (byteAt s o)) where
+module _ (s : List ℕ) (o : ℕ) (shapes offsets shaped bounds starts lengths : List ℕ) (n : Counts)
+    (k : Gathered s o shapes offsets shaped bounds starts lengths n) (m : Small s) (h : o < length s) (g : ℕ) (eg : g ≡ group (byteAt s o)) where
   -- a record of another group leaves what is ahead of group f
   miss : (f : ℕ) → (g ≡ f → ⊥) → ahead s f o ≡ ahead s f (next s o)
   miss f d = those-miss s f o (k .whole) h (λ z. d (eg ∙ z))
@@ -80,16 +80,16 @@ module _ (s : List ℕ) (o : ℕ) (shape cell shaped bound start size : List ℕ
   other a f e d z = d (sym e ∙ z)
 
   pub shape-room : g ≡ 2 → n .shapes < 32
-  shape-room e = table-room s (groupOf s 2) _ _ _ o (most-shapes s (m .few)) (rw (hit 2 e) at (k .shapes))
+  shape-room e = table-room s (groupOf s 2) _ _ _ o (most-shapes s (m .few)) (rw (hit 2 e) at (k .shapes-are))
 
-  pub shape-sized : length shape ≡ 128
-  shape-sized = table-sized s _ _ _ _ (k .shapes)
+  pub shape-sized : length shapes ≡ 128
+  shape-sized = table-sized s _ _ _ _ (k .shapes-are)
 
   pub cell-room : g ≡ 3 → n .cells < 32
-  cell-room e = fill-room 0 32 same (groupOf s 3) _ _ _ o (most-cells s (m .few)) (rw (hit 3 e) at (k .cells))
+  cell-room e = fill-room 0 32 same (groupOf s 3) _ _ _ o (most-cells s (m .few)) (rw (hit 3 e) at (k .offsets-are))
 
   pub block-room : g ≡ 4 → n .blocks < 64
-  block-room e = fill-room 0 64 (boundAt s) (groupOf s 4) _ _ _ o (most-blocks s (m .few)) (rw (hit 4 e) at (k .bounds))
+  block-room e = fill-room 0 64 (boundAt s) (groupOf s 4) _ _ _ o (most-blocks s (m .few)) (rw (hit 4 e) at (k .bounds-are))
 
   -- past the record, at p
   module _ (p : ℕ) (ep : p ≡ next s o) where
@@ -115,56 +115,56 @@ module _ (s : List ℕ) (o : ℕ) (shape cell shaped bound start size : List ℕ
           → Filled d most entry (groupOf s f) (ahead s f p) (i + 1) after
       pushed e l after ea y = rw (ep, ea) (fill-push d most entry (groupOf s f) (ahead s f (next s o)) i arr o l (rw (hit f e) at y))
 
-    keep-shapes : (g ≡ 2 → ⊥) → Tabled s (groupOf s 2) (ahead s 2 p) (n .shapes) shape
-    keep-shapes e = rw ep (rw (miss 2 e) at (k .shapes))
+    keep-shapes : (g ≡ 2 → ⊥) → Tabled s (groupOf s 2) (ahead s 2 p) (n .shapes) shapes
+    keep-shapes e = rw ep (rw (miss 2 e) at (k .shapes-are))
 
     pub gather-shape : (x : Shape) (table : List ℕ) → g ≡ 2 → x ≡ shapeAt s o
-        → table ≡ take (4 * n .shapes) shape ++ shapeBytes x ++ drop (4 * n .shapes + 4) shape
-        → Gathered s p table cell shaped bound start size (record { shapes = n .shapes + 1; cells = n .cells; blocks = n .blocks; steps = n .steps })
+        → table ≡ take (4 * n .shapes) shapes ++ shapeBytes x ++ drop (4 * n .shapes + 4) shapes
+        → Gathered s p table offsets shaped bounds starts lengths (record { shapes = n .shapes + 1; cells = n .cells; blocks = n .blocks; steps = n .steps })
     gather-shape x table e ex et =
         let c = other 2 3 e (λ z. omega arith) in
         let b = other 2 4 e (λ z. omega arith) in
         record {
           inside = inside-next;
           whole = whole-next;
-          shapes = rw ep (table-push s (groupOf s 2) (ahead s 2 (next s o)) (n .shapes) shape o x table (most-shapes s (m .few)) ex et (rw (hit 2 e) at (k .shapes)));
-          cells = kept 0 32 same 3 _ _ c (k .cells);
-          owners = kept 0 32 (shapedAt s) 3 _ _ c (k .owners);
-          bounds = kept 0 64 (boundAt s) 4 _ _ b (k .bounds);
-          starts = kept 0 64 startAt 4 _ _ b (k .starts);
-          sizes = kept 0 64 (lengthAt s) 4 _ _ b (k .sizes);
+          shapes-are = rw ep (table-push s (groupOf s 2) (ahead s 2 (next s o)) (n .shapes) shapes o x table (most-shapes s (m .few)) ex et (rw (hit 2 e) at (k .shapes-are)));
+          offsets-are = kept 0 32 same 3 _ _ c (k .offsets-are);
+          shaped-are = kept 0 32 (shapedAt s) 3 _ _ c (k .shaped-are);
+          bounds-are = kept 0 64 (boundAt s) 4 _ _ b (k .bounds-are);
+          starts-are = kept 0 64 startAt 4 _ _ b (k .starts-are);
+          lengths-are = kept 0 64 (lengthAt s) 4 _ _ b (k .lengths-are);
           steps = same-steps b;
           few = few-next;
         }
 
-    pub gather-cell : (cell′ shaped′ : List ℕ) → g ≡ 3 → cell′ ≡ set cell (n .cells) o → shaped′ ≡ set shaped (n .cells) (byteAt s (o + 1))
-        → Gathered s p shape cell′ shaped′ bound start size (record { shapes = n .shapes; cells = n .cells + 1; blocks = n .blocks; steps = n .steps })
-    gather-cell cell′ shaped′ e ec es =
+    pub gather-cell : (offsets′ shaped′ : List ℕ) → g ≡ 3 → offsets′ ≡ set offsets (n .cells) o → shaped′ ≡ set shaped (n .cells) (byteAt s (o + 1))
+        → Gathered s p shapes offsets′ shaped′ bounds starts lengths (record { shapes = n .shapes; cells = n .cells + 1; blocks = n .blocks; steps = n .steps })
+    gather-cell offsets′ shaped′ e ec es =
         let b = other 3 4 e (λ z. omega arith) in
         record {
           inside = inside-next;
           whole = whole-next;
-          shapes = keep-shapes (other 3 2 e (λ z. omega arith));
-          cells = pushed 0 32 same 3 _ _ e (most-cells s (m .few)) _ ec (k .cells);
-          owners = pushed 0 32 (shapedAt s) 3 _ _ e (most-cells s (m .few)) _ es (k .owners);
-          bounds = kept 0 64 (boundAt s) 4 _ _ b (k .bounds);
-          starts = kept 0 64 startAt 4 _ _ b (k .starts);
-          sizes = kept 0 64 (lengthAt s) 4 _ _ b (k .sizes);
+          shapes-are = keep-shapes (other 3 2 e (λ z. omega arith));
+          offsets-are = pushed 0 32 same 3 _ _ e (most-cells s (m .few)) _ ec (k .offsets-are);
+          shaped-are = pushed 0 32 (shapedAt s) 3 _ _ e (most-cells s (m .few)) _ es (k .shaped-are);
+          bounds-are = kept 0 64 (boundAt s) 4 _ _ b (k .bounds-are);
+          starts-are = kept 0 64 startAt 4 _ _ b (k .starts-are);
+          lengths-are = kept 0 64 (lengthAt s) 4 _ _ b (k .lengths-are);
           steps = same-steps b;
           few = few-next;
         }
 
-    pub gather-other : (g ≡ 2 → ⊥) → (g ≡ 3 → ⊥) → (g ≡ 4 → ⊥) → Gathered s p shape cell shaped bound start size n
+    pub gather-other : (g ≡ 2 → ⊥) → (g ≡ 3 → ⊥) → (g ≡ 4 → ⊥) → Gathered s p shapes offsets shaped bounds starts lengths n
     gather-other a c b =
         record {
           inside = inside-next;
           whole = whole-next;
-          shapes = keep-shapes a;
-          cells = kept 0 32 same 3 _ _ c (k .cells);
-          owners = kept 0 32 (shapedAt s) 3 _ _ c (k .owners);
-          bounds = kept 0 64 (boundAt s) 4 _ _ b (k .bounds);
-          starts = kept 0 64 startAt 4 _ _ b (k .starts);
-          sizes = kept 0 64 (lengthAt s) 4 _ _ b (k .sizes);
+          shapes-are = keep-shapes a;
+          offsets-are = kept 0 32 same 3 _ _ c (k .offsets-are);
+          shaped-are = kept 0 32 (shapedAt s) 3 _ _ c (k .shaped-are);
+          bounds-are = kept 0 64 (boundAt s) 4 _ _ b (k .bounds-are);
+          starts-are = kept 0 64 startAt 4 _ _ b (k .starts-are);
+          lengths-are = kept 0 64 (lengthAt s) 4 _ _ b (k .lengths-are);
           steps = same-steps b;
           few = few-next;
         }
@@ -217,46 +217,46 @@ module _ (s : List ℕ) (o : ℕ) (shape cell shaped bound start size : List ℕ
       unfolding lengthAt
       length-is = rw (end-is, two) refl
 
-      pub gather-block : (bound′ start′ size′ : List ℕ) → bound′ ≡ set bound (n .blocks) (byteAt s (o + 1)) → start′ ≡ set start (n .blocks) p
-          → size′ ≡ set size (n .blocks) (r .at - p)
-          → Gathered s (r .at) shape cell shaped bound′ start′ size′
+      pub gather-block : (bounds′ starts′ lengths′ : List ℕ) → bounds′ ≡ set bounds (n .blocks) (byteAt s (o + 1)) → starts′ ≡ set starts (n .blocks) p
+          → lengths′ ≡ set lengths (n .blocks) (r .at - p)
+          → Gathered s (r .at) shapes offsets shaped bounds′ starts′ lengths′
           (record { shapes = n .shapes; cells = n .cells; blocks = n .blocks + 1; steps = n .steps + r .count })
-      gather-block bound′ start′ size′ eb es el =
+      gather-block bounds′ starts′ lengths′ eb es el =
           let c = other 4 3 e (λ z. omega arith) in
           let l = most-blocks s (m .few) in
           record {
             inside = rw end-is (steps-behind .inside);
             whole = rw end-is (steps-behind .whole);
-            shapes = rw (past 2 (λ z. omega arith)) at (keep-shapes (other 4 2 e (λ z. omega arith)));
-            cells = rw (past 3 (λ z. omega arith)) at (kept 0 32 same 3 _ _ c (k .cells));
-            owners = rw (past 3 (λ z. omega arith)) at (kept 0 32 (shapedAt s) 3 _ _ c (k .owners));
-            bounds = rw (past 4 (λ z. omega arith)) at (pushed 0 64 (boundAt s) 4 _ _ e l _ eb (k .bounds));
-            starts = rw (past 4 (λ z. omega arith)) at (pushed 0 64 startAt 4 _ _ e l _ (es ∙ ap (set start (n .blocks)) two) (k .starts));
-            sizes = rw (past 4 (λ z. omega arith)) at (pushed 0 64 (lengthAt s) 4 _ _ e l _ (el ∙ ap (set size (n .blocks)) length-is) (k .sizes));
+            shapes-are = rw (past 2 (λ z. omega arith)) at (keep-shapes (other 4 2 e (λ z. omega arith)));
+            offsets-are = rw (past 3 (λ z. omega arith)) at (kept 0 32 same 3 _ _ c (k .offsets-are));
+            shaped-are = rw (past 3 (λ z. omega arith)) at (kept 0 32 (shapedAt s) 3 _ _ c (k .shaped-are));
+            bounds-are = rw (past 4 (λ z. omega arith)) at (pushed 0 64 (boundAt s) 4 _ _ e l _ eb (k .bounds-are));
+            starts-are = rw (past 4 (λ z. omega arith)) at (pushed 0 64 startAt 4 _ _ e l _ (es ∙ ap (set starts (n .blocks)) two) (k .starts-are));
+            lengths-are = rw (past 4 (λ z. omega arith)) at (pushed 0 64 (lengthAt s) 4 _ _ e l _ (el ∙ ap (set lengths (n .blocks)) length-is) (k .lengths-are));
             steps = counted-on;
             few = steps-fit;
           }
 
 -- the end of the book
-pub gather-end : (s : List ℕ) (o : ℕ) (shape cell shaped bound start size : List ℕ) (n : Counts)
-    → Gathered s o shape cell shaped bound start size n → length s ≤ o → drawn s n shape cell shaped bound start size ≡ outlineOf s
+pub gather-end : (s : List ℕ) (o : ℕ) (shapes offsets shaped bounds starts lengths : List ℕ) (n : Counts)
+    → Gathered s o shapes offsets shaped bounds starts lengths n → length s ≤ o → drawn s n shapes offsets shaped bounds starts lengths ≡ outlineOf s
 unfolding outlineOf those stepCount
-gather-end s o shape cell shaped bound start size n k h =
+gather-end s o shapes offsets shaped bounds starts lengths n k h =
     let none : (f : ℕ) → ahead s f o ≡ [] = λ f. ap (those (inGroup s f)) (records-end s o h) in
-    let x = table-end s (groupOf s 2) [] (n .shapes) shape (rw (none 2) at (k .shapes)) in
-    let y = fill-end 0 32 same (groupOf s 3) [] (n .cells) cell (rw (none 3) at (k .cells)) in
-    let u = fill-end 0 32 (shapedAt s) (groupOf s 3) [] (n .cells) shaped (rw (none 3) at (k .owners)) in
-    let z = fill-end 0 64 (boundAt s) (groupOf s 4) [] (n .blocks) bound (rw (none 4) at (k .bounds)) in
-    let v = fill-end 0 64 startAt (groupOf s 4) [] (n .blocks) start (rw (none 4) at (k .starts)) in
-    let w = fill-end 0 64 (lengthAt s) (groupOf s 4) [] (n .blocks) size (rw (none 4) at (k .sizes)) in
+    let x = table-end s (groupOf s 2) [] (n .shapes) shapes (rw (none 2) at (k .shapes-are)) in
+    let y = fill-end 0 32 same (groupOf s 3) [] (n .cells) offsets (rw (none 3) at (k .offsets-are)) in
+    let u = fill-end 0 32 (shapedAt s) (groupOf s 3) [] (n .cells) shaped (rw (none 3) at (k .shaped-are)) in
+    let z = fill-end 0 64 (boundAt s) (groupOf s 4) [] (n .blocks) bounds (rw (none 4) at (k .bounds-are)) in
+    let v = fill-end 0 64 startAt (groupOf s 4) [] (n .blocks) starts (rw (none 4) at (k .starts-are)) in
+    let w = fill-end 0 64 (lengthAt s) (groupOf s 4) [] (n .blocks) lengths (rw (none 4) at (k .lengths-are)) in
     let i : map same (groupOf s 3) ≡ groupOf s 3 = map-id (groupOf s 3) in
     let q : n .steps ≡ stepCount s (groupOf s 4) = omega (arith, rw (none 4) at (k .steps)) in
     simp (x .0, y .0, u .0, z .0, v .0, w .0, i, ← q, ← x .1, ← y .1, ← z .1)
 
 -- b is the byte that says C
-pub outline-drawn : (s shape cell shaped bound start size : List ℕ) (n : Counts) (b : ℕ) → drawn s n shape cell shaped bound start size ≡ outlineOf s → b ≡ byteAt s 1
-    → record { c = label b; counts = n; shape = shape; cell = cell; shaped = shaped; bound = bound; start = start; length = size } ≡ outlineOf s
-outline-drawn s shape cell shaped bound start size n b e eb = rw eb e
+pub outline-drawn : (s shapes offsets shaped bounds starts lengths : List ℕ) (n : Counts) (b : ℕ) → drawn s n shapes offsets shaped bounds starts lengths ≡ outlineOf s → b ≡ byteAt s 1
+    → record { c = label b; counts = n; shapes = shapes; offsets = offsets; shaped = shaped; bounds = bounds; starts = starts; lengths = lengths } ≡ outlineOf s
+outline-drawn s shapes offsets shaped bounds starts lengths n b e eb = rw eb e
 
 pub ruleset gathers = (gather-start, gather-shape, gather-cell, gather-other, gather-block, gather-end)
 

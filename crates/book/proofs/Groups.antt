@@ -4,7 +4,7 @@
 --     is-cell, is-block, ..      the kinds of a group
 --     group-span                 a kind of a group has a span
 -- Assumes nothing.
-use mathlib.Core.Path.{_≡_, refl, sym}
+use mathlib.Core.Path.{_≡_, refl}
 use mathlib.Core.Bool.{Bool, true, false, not, _&&_, _||_}
 use mathlib.Core.List.{List, [], _∷_}
 use Prim.Native.Nat.{ℕ, _<_, _≤_}
@@ -12,7 +12,7 @@ use native.Mathlib.Omega.{arith}
 use lib.Dec.{T, leb, ltb, eqb, eqb→eq, leb→le, ltb→lt}
 use borrow.Author.Tests.{ltb-true, ltb-false, eq-eqb, ne-eqb, lt-leb, le-ltb}
 use Rattle.book.specs.Kinds.{Layout, layouts, layoutIn, span, group}
-use Rattle.book.proofs.Computed.{and-left, and-right, every, at, between}
+use Rattle.book.proofs.Computed.{and-left, and-right, allBelow, at, between}
 
 -- every kind of a table is a byte
 bytes : List Layout → Bool
@@ -31,7 +31,7 @@ module _ (g : ℕ) (some : 0 < g) (f : ℕ → Bool) where
   abbrev ofGroup : ℕ → Bool
   ofGroup k = not (eqb (group k) g) || f k
 
-  kind-of : T (every ofGroup 256) → (k : ℕ) → group k ≡ g → T (f k)
+  kind-of : T (allBelow ofGroup 256) → (k : ℕ) → group k ≡ g → T (f k)
   unfolding group bytes
   kind-of t k e = go (ltb k 256) refl
     where

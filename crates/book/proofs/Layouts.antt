@@ -4,7 +4,7 @@
 --     fixed                what a kind fixes
 -- Assumes nothing.
 use mathlib.Core.Path.{_≡_, refl, sym, ap}
-use mathlib.Core.Bool.{Bool, true, false, _&&_}
+use mathlib.Core.Bool.{Bool, _&&_}
 use mathlib.Core.List.{List, [], _∷_}
 use Prim.Native.Nat.{ℕ, suc, _≤_, _<_}
 use lib.Dec.{T, eqb, eqb→eq}
@@ -13,7 +13,7 @@ use borrow.Author.Tests.{ne-eqb}
 use Rattle.book.specs.Control.{if_then_else_}
 use Rattle.book.specs.Kinds.{Layout, layouts, layout, layoutIn, layoutOf, limits, span}
 use Rattle.book.specs.Asked.{Limited, Fixed}
-use Rattle.book.proofs.Computed.{and-left, and-right, every, ranged, between}
+use Rattle.book.proofs.Computed.{and-left, and-right, allBelow, ranged, between}
 
 -- what antt computes: the span of a kind, the limit of its field i
 abbrev pub spanAt : ℕ → ℕ
@@ -22,7 +22,7 @@ spanAt k = if eqb (layoutOf k .group) 0 then 0 else suc (length (layoutOf k .lim
 abbrev pub limitAt : ℕ → ℕ → ℕ
 limitAt k i = getD (layoutOf k .limits) i 255
 
-pub span-between : (a b v : ℕ) → T (every (ranged spanAt a b v) 256) → (k : ℕ) → k < 256 → a ≤ k → k ≤ b → v ≡ span k
+pub span-between : (a b v : ℕ) → T (allBelow (ranged spanAt a b v) 256) → (k : ℕ) → k < 256 → a ≤ k → k ≤ b → v ≡ span k
 unfolding span
 span-between = between spanAt
 

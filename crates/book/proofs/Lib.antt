@@ -19,7 +19,7 @@ pub mod Past
 pub mod Part
 pub mod Limits
 pub mod Gathered
-pub mod Named
+pub mod NameFaults
 pub mod Lower
 pub mod Readable
 pub mod Parsed

@@ -8,6 +8,7 @@ use native.Mathlib.Omega.{arith}
 use lib.Dec.{eqb}
 use lib.ListN.{length}
 use borrow.Author.Tests.{eqb-true}
+use Rattle.labels.proofs.Impossible.{impossible}
 use Rattle.book.specs.declared.Fault.the-variants.{Nowhere, At}
 use Rattle.book.specs.declared.Tally.{Tally}
 use Rattle.book.specs.Control.{if_then_else_, those, sweep}
@@ -64,7 +65,7 @@ module _ (s : List ℕ) where
       go : (b : Bool) → tooMany (counted n (group (byteAt s o))) ≡ b
           → (tooMany (counted n (group (byteAt s o))) ≡ false → beyond s (counted n (group (byteAt s o))) os ≡ Nowhere → Within (counted n (group (byteAt s o))) os)
           → Within n (o ∷ os)
-      go true q r = let x : At o ≡ Nowhere = simp (sweep, q) at e in let z : _≡_ {A = ℕ} 0 1 = cc in absurd (omega arith)
+      go true q r = let x : At o ≡ Nowhere = simp (sweep, q) at e in impossible cc
       go false q r =
           let x = r q (simp (sweep, q) at e) in
           let c = counts n (group (byteAt s o)) in

@@ -8,6 +8,7 @@ use native.Mathlib.Omega.{arith}
 use lib.Dec.{eqb}
 use lib.ListN.{getD}
 use borrow.Author.Tests.{leb-false}
+use Rattle.labels.proofs.Impossible.{impossible}
 use Rattle.book.specs.declared.Fault.the-variants.{Nowhere, At}
 use Rattle.book.specs.Control.{sweep, those}
 use Rattle.book.specs.Records.{byteAt, records, inGroup}
@@ -37,12 +38,11 @@ module _ (f : ℕ → Bool) (cells blocks : ℕ) (s : List ℕ) where
           → getD (map (shapeAt s) (those (inGroup s 2) (o ∷ os))) i noShape .content < n + i
       go true p b q i k r =
           let x : At o ≡ Nowhere = simp (sweep, p) at e in
-          let z : _≡_ {A = ℕ} 0 1 = cc in
-          absurd (omega arith)
+          impossible cc
       go false p true q zero k r = simp (those, q) (let l = one n o p (simp (those, q) at k) in omega arith)
       go false p true q (suc i) k r = simp (those, q) (let l = r (n + 1) (simp (sweep, p, q) at e) i (simp (those, q) at k) in omega arith)
       go false p false q i k r = simp (those, q) (r n (simp (sweep, p, q) at e) i (simp (those, q) at k))
 
-pub lower : (s : List ℕ) → nameFault s ≡ Nowhere → (i : ℕ) → getD (parse s .shapes) i noShape .kind ≡ 18 → getD (parse s .shapes) i noShape .content < i
+pub content-lower : (s : List ℕ) → nameFault s ≡ Nowhere → (i : ℕ) → getD (parse s .shapes) i noShape .kind ≡ 18 → getD (parse s .shapes) i noShape .content < i
 unfolding nameFault parse groupOf
-lower s e i k = let h = below _ _ _ s (records s) 0 e i k in omega arith
+content-lower s e i k = let h = below _ _ _ s (records s) 0 e i k in omega arith

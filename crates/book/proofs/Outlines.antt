@@ -1,6 +1,6 @@
 -- The tables of a readable book's outline.
 --     listed                                 a declared cell's record stands at each offset
---     shape-is, cells-are, and so on         what each table has
+--     shape-is, cells-are, .., lengths-are   what each table has
 --     drawns                                 for the code: what is asked of the tables
 -- Assumes nothing.
 use mathlib.Core.Path.{_≡_, sym, ap, _∙_}
@@ -22,7 +22,7 @@ use Rattle.book.specs.Stretch.{cellFound}
 use Rattle.book.specs.Asked.{Sound, Listed, Laid}
 use Rattle.book.proofs.ShapeTable.{shape-get}
 use Rattle.book.proofs.Records.{walk}
-use Rattle.book.proofs.Lower.{lower}
+use Rattle.book.proofs.Lower.{content-lower}
 use Rattle.book.proofs.Readable.{Readable, readable}
 use Rattle.book.proofs.Blocks.{stands}
 
@@ -49,52 +49,52 @@ module _ (s : List ℕ) (e : unreadable s ≡ Passed) (t : Outline) (et : t ≡ 
   r : Readable s
   r = readable s e
 
-  pub shape-is : (i : ℕ) → shapeIn (t .shape) i ≡ getD (parse s .shapes) i noShape
+  pub shape-is : (i : ℕ) → shapeIn (t .shapes) i ≡ getD (parse s .shapes) i noShape
   unfolding outlineOf parse
   shape-is i =
-      ap (λ (t : Outline). shapeIn (t .shape) i) et
+      ap (λ (t : Outline). shapeIn (t .shapes) i) et
       ∙ shape-get (map (shapeAt s) (shapesOf s)) (128 - length (shapesTable (map (shapeAt s) (shapesOf s)))) i
 
-  pub drawn-sound : Sound (shapeIn (t .shape))
+  pub drawn-sound : Sound (shapeIn (t .shapes))
   drawn-sound =
       record {
         falls =
             λ i k.
             let x = shape-is i in
-            let l = lower s (r .named) i (sym (ap (λ (x : Shape). x .kind) x) ∙ k) in
+            let l = content-lower s (r .named) i (sym (ap (λ (x : Shape). x .kind) x) ∙ k) in
             let y = ap (λ (x : Shape). x .content) x in
             omega arith;
       }
 
-  pub cells-are : take (t .counts .cells - 0) (drop 0 (t .cell)) ≡ cellsOf s
+  pub cells-are : take (t .counts .cells - 0) (drop 0 (t .offsets)) ≡ cellsOf s
   unfolding outlineOf
-  cells-are = ap (λ (t : Outline). take (t .counts .cells - 0) (drop 0 (t .cell))) et ∙ take-at (cellsOf s) _ (length (cellsOf s) - 0) (omega arith)
+  cells-are = ap (λ (t : Outline). take (t .counts .cells - 0) (drop 0 (t .offsets))) et ∙ take-at (cellsOf s) _ (length (cellsOf s) - 0) (omega arith)
 
-  pub owners-are : take (t .counts .cells - 0) (drop 0 (t .shaped)) ≡ map (λ o. byteAt s (o + 1)) (cellsOf s)
+  pub shaped-are : take (t .counts .cells - 0) (drop 0 (t .shaped)) ≡ map (λ o. byteAt s (o + 1)) (cellsOf s)
   unfolding outlineOf
-  owners-are =
+  shaped-are =
       ap (λ (t : Outline). take (t .counts .cells - 0) (drop 0 (t .shaped))) et
       ∙ take-at (map (λ o. byteAt s (o + 1)) (cellsOf s)) _ (length (cellsOf s) - 0) (length-map (cellsOf s) (λ o. byteAt s (o + 1)) ∙ omega arith)
 
-  pub bounds-are : take (t .counts .blocks - 0) (drop 0 (t .bound)) ≡ map (boundAt s) (blocksOf s)
+  pub bounds-are : take (t .counts .blocks - 0) (drop 0 (t .bounds)) ≡ map (boundAt s) (blocksOf s)
   unfolding outlineOf
   bounds-are =
-      ap (λ (t : Outline). take (t .counts .blocks - 0) (drop 0 (t .bound))) et
+      ap (λ (t : Outline). take (t .counts .blocks - 0) (drop 0 (t .bounds))) et
       ∙ take-at (map (boundAt s) (blocksOf s)) _ (length (blocksOf s) - 0) (length-map (blocksOf s) (boundAt s) ∙ omega arith)
 
-  pub starts-are : take (t .counts .blocks - 0) (drop 0 (t .start)) ≡ map startAt (blocksOf s)
+  pub starts-are : take (t .counts .blocks - 0) (drop 0 (t .starts)) ≡ map startAt (blocksOf s)
   unfolding outlineOf
   starts-are =
-      ap (λ (t : Outline). take (t .counts .blocks - 0) (drop 0 (t .start))) et
+      ap (λ (t : Outline). take (t .counts .blocks - 0) (drop 0 (t .starts))) et
       ∙ take-at (map startAt (blocksOf s)) _ (length (blocksOf s) - 0) (length-map (blocksOf s) startAt ∙ omega arith)
 
-  pub lengths-are : take (t .counts .blocks - 0) (drop 0 (t .length)) ≡ map (lengthAt s) (blocksOf s)
+  pub lengths-are : take (t .counts .blocks - 0) (drop 0 (t .lengths)) ≡ map (lengthAt s) (blocksOf s)
   unfolding outlineOf
   lengths-are =
-      ap (λ (t : Outline). take (t .counts .blocks - 0) (drop 0 (t .length))) et
+      ap (λ (t : Outline). take (t .counts .blocks - 0) (drop 0 (t .lengths))) et
       ∙ take-at (map (lengthAt s) (blocksOf s)) _ (length (blocksOf s) - 0) (length-map (blocksOf s) (lengthAt s) ∙ omega arith)
 
-  pub drawn-cell : t .counts .cells ≤ length (t .cell)
+  pub drawn-cell : t .counts .cells ≤ length (t .offsets)
   unfolding outlineOf
   drawn-cell = rw et (front (cellsOf s) _)
 
@@ -102,22 +102,22 @@ module _ (s : List ℕ) (e : unreadable s ≡ Passed) (t : Outline) (et : t ≡ 
   unfolding outlineOf
   drawn-shaped = rw et (fronts (λ o. byteAt s (o + 1)) (cellsOf s) _)
 
-  pub drawn-bound : t .counts .blocks ≤ length (t .bound)
+  pub drawn-bound : t .counts .blocks ≤ length (t .bounds)
   unfolding outlineOf
   drawn-bound = rw et (fronts (boundAt s) (blocksOf s) _)
 
-  pub drawn-start : t .counts .blocks ≤ length (t .start)
+  pub drawn-start : t .counts .blocks ≤ length (t .starts)
   unfolding outlineOf
   drawn-start = rw et (fronts startAt (blocksOf s) _)
 
-  pub drawn-length : t .counts .blocks ≤ length (t .length)
+  pub drawn-length : t .counts .blocks ≤ length (t .lengths)
   unfolding outlineOf
   drawn-length = rw et (fronts (lengthAt s) (blocksOf s) _)
 
-  pub drawn-listed : Listed s (take (t .counts .cells - 0) (drop 0 (t .cell)))
+  pub drawn-listed : Listed s (take (t .counts .cells - 0) (drop 0 (t .offsets)))
   drawn-listed = rw cells-are (listed s r)
 
-  pub drawn-laid : Laid s (take (t .counts .blocks - 0) (drop 0 (t .bound))) (take (t .counts .blocks - 0) (drop 0 (t .start))) (take (t .counts .blocks - 0) (drop 0 (t .length)))
+  pub drawn-laid : Laid s (take (t .counts .blocks - 0) (drop 0 (t .bounds))) (take (t .counts .blocks - 0) (drop 0 (t .starts))) (take (t .counts .blocks - 0) (drop 0 (t .lengths)))
   drawn-laid = record { short = r .short; whole = r .whole; bound = bounds-are; start = starts-are; long = lengths-are }
 
 pub ruleset drawns = (drawn-sound, drawn-cell, drawn-shaped, drawn-bound, drawn-start, drawn-length, drawn-listed, drawn-laid)

@@ -1,5 +1,5 @@
 -- What refusals 3, 4 and 6 leave of the parsed book: a block stands, blocks and steps are few, and every block that is named exists.
---     Sound, sound      of every readable book
+--     SoundBook, sound      of every readable book
 -- Assumes nothing.
 use mathlib.Core.Path.{_≡_, refl, ap}
 use mathlib.Core.Bool.{Bool, true, false}
@@ -31,7 +31,7 @@ pub record SoundBlock (K : Book) (b : Block) : Type 0 where
   pub named : All (λ p. stepNamed (hasCellShape K) (length (K .cells)) (length (K .blocks)) p ≡ true) (b .steps)
 
 -- refusals 3, 4 and 6 of a book: a block stands, at most 64 do, and declared cells name what exists
-pub record Sound (K : Book) : Type 0 where
+pub record SoundBook (K : Book) : Type 0 where
   pub some-block : 0 < length (K .blocks)
   pub few : length (K .blocks) ≤ 64
   pub cells : All (λ d. cellNamed (hasCellShape K) (length (K .cells)) (length (K .blocks)) d ≡ true) (K .cells)
@@ -142,7 +142,7 @@ module _ (s : List ℕ) (r : Readable s) where
       (all-both _ _ (λ o. SoundBlock (parse s) (blockAt s o)) (λ o f n. record { few = omega (arith, few-in s o f, length-map (stepsFrom s (o + 2)) (stepAt s)); named = steps-in s _ _ _ o n })
       (blocksOf s) (those-all _ (inGroup s 4) (records s) (cleared _ _ _ s noTally 0 (pass-whole s (r .whole)) (r .few))) (those-all _ (inGroup s 4) (records s) named))
 
-pub sound : (s : List ℕ) → unreadable s ≡ Passed → Sound (parse s)
+pub sound : (s : List ℕ) → unreadable s ≡ Passed → SoundBook (parse s)
 sound s e =
     let r = readable s e in
     record { some-block = block-stands s r; few = blocks-few s r; cells = cells-named s r; blocks = blocks-sound s r }

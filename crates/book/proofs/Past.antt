@@ -11,6 +11,7 @@ use native.Mathlib.Omega.{arith}
 use lib.Dec.{eqb, ltb}
 use lib.ListN.{length}
 use borrow.Author.Tests.{eq-eqb, ne-eqb, eqb-true, eqb-false, ltb-true, ltb-false}
+use Rattle.labels.proofs.Impossible.{impossible}
 use Rattle.book.specs.Control.{those, while}
 use Rattle.book.specs.Kinds.{group}
 use Rattle.book.specs.Records.{byteAt, next, recordsFrom, inGroup}
@@ -48,8 +49,7 @@ past s [] a e w h = go (ltb a (length s)) refl
     go false l = stay s a w h (steps-end s a (ltb-false _ _ l))
     go true l =
         let x : [] ≡ a ∷ recordsFrom s (next s a) = sym e ∙ walk s a w (ltb-true _ _ l) .list in
-        let z : _≡_ {A = ℕ} 0 1 = cc in
-        absurd (omega arith)
+        impossible cc
 past s (o ∷ os) a e w h = go (ltb a (length s)) refl (eqb (group (byteAt s a)) 5) refl (past s os (next s a))
   where
     go : (b : Bool) → ltb a (length s) ≡ b → (d : Bool) → eqb (group (byteAt s a)) 5 ≡ d

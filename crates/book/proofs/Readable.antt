@@ -1,17 +1,17 @@
 -- Laws of reading: the stages one after the other, and what a book that passes them all has.
+--     pass-whole            where refusal 2 does not hold, every record is whole
 --     refuse1, .., refuse5  what read answers, from what its stages found
 --     clears                the same of a book that refusals 1 to 5 do not hold of
 --     Readable, readable    a book that none of refusals 1 to 6 holds of
---     found                 a block of such a book
 -- Assumes nothing.
 use mathlib.Core.Path.{_≡_, refl, sym, _∙_}
 use mathlib.Core.Bool.{Bool, true, false}
 use mathlib.Core.List.{List}
 use Prim.Native.Nat.{ℕ, _-_, _≤_, _<_}
-use native.Mathlib.Omega.{arith}
 use lib.Dec.{ltb}
 use lib.ListN.{length}
 use borrow.Author.Tests.{lt-ltb, le-ltb, ltb-false}
+use Rattle.labels.proofs.Impossible.{impossible}
 use Rattle.book.specs.declared.Fault.{Fault}
 use Rattle.book.specs.declared.Fault.the-variants.{Nowhere, At}
 use Rattle.book.specs.declared.Refusal.{Refusal}
@@ -93,10 +93,10 @@ pub record Readable (s : List ℕ) : Type 0 where
 stage : (n : ℕ) (f : Fault) (r : Refusal) → orRefuse n f r ≡ Passed → (f ≡ Nowhere) × (r ≡ Passed)
 unfolding orRefuse
 stage n Nowhere r e = (refl, e)
-stage n (At o) r e = let z : _≡_ {A = ℕ} 0 1 = cc in absurd (omega arith)
+stage n (At o) r e = impossible cc
 
 first : (b : Bool) (r : Refusal) → (if b then Refused 1 0 else r) ≡ Passed → (b ≡ false) × (r ≡ Passed)
-first true r e = let z : _≡_ {A = ℕ} 0 1 = cc in absurd (omega arith)
+first true r e = impossible cc
 first false r e = (refl, e)
 
 pub readable : (s : List ℕ) → unreadable s ≡ Passed → Readable s

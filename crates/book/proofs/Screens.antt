@@ -1,7 +1,7 @@
 -- Laws of refusals 2 to 5 in one pass: each record that passes is whole, in order, not one too many, and in range.
---     fits, unfit   a record that refusals 2 and 5 do not hold of
---     Screened      what every stage gives from an offset on is what it gives of the book
---     screens       one set: before the first record, past a record, at the end
+--     fits-whole, unfit    a record that refusals 2 and 5 do not hold of
+--     Screened             what every stage gives from an offset on is what it gives of the book
+--     screens              one set: before the first record, past a record, at the end
 -- Assumes nothing.
 use mathlib.Core.Path.{_≡_, refl, sym, _∙_}
 use mathlib.Core.Bool.{Bool, true, false}
@@ -11,6 +11,7 @@ use native.Mathlib.Omega.{arith}
 use lib.Dec.{eqb}
 use lib.ListN.{length}
 use borrow.Author.Tests.{eqb-true, le-ltb}
+use Rattle.labels.proofs.Impossible.{impossible}
 use Rattle.book.specs.declared.Tally.{Tally}
 use Rattle.book.specs.Control.{first}
 use Rattle.book.specs.Kinds.{span, group}
@@ -23,10 +24,10 @@ use Rattle.book.proofs.Stages.{cut-start, cut-end, order-start, order-e
 use Rattle.book.proofs.Ranges.{third-above}
 
 -- a record that has room for what its kind fixes, and no field above its largest value
-pub fits : (s : List ℕ) (bytes : (i : ℕ) → byteAt s i < 256) (o w a b c x y z : ℕ) → Fixed (byteAt s o) w a b c → o < length s → w ≤ length s - o
+pub fits-whole : (s : List ℕ) (bytes : (i : ℕ) → byteAt s i < 256) (o w a b c x y z : ℕ) → Fixed (byteAt s o) w a b c → o < length s → w ≤ length s - o
     → x ≡ byteAt s (o + 1) → y ≡ byteAt s (o + 2) → z ≡ byteAt s (o + 3) → x ≤ a → y ≤ b → z ≤ c
     → (w ≡ 0 → ⊥) → Fit s o w
-fits s bytes o w a b c x y z k h l ex ey ez la lb lc d =
+fits-whole s bytes o w a b c x y z k h l ex ey ez la lb lc d =
     record {
       bytes = k .bytes;
       uncut = uncut span s o (λ e. d (k .bytes ∙ e)) (rw (k .bytes) at (room w l));
@@ -85,6 +86,6 @@ module _ (s : List ℕ) (o p : ℕ) (n : Tally) (x : Screened s o p n) where
       }
 
 pub screen-none : (s : List ℕ) → false ≡ true → Clear s
-screen-none s e = let z : _≡_ {A = ℕ} 0 1 = cc in absurd (omega arith)
+screen-none s e = impossible cc
 
 pub ruleset screens = (screen-start, screen-on, screen-end, screen-none)

@@ -63,17 +63,17 @@ shape-get (x ∷ xs) m (suc i) =
     ∙ shape-get xs m i
 
 -- four stores
-pub shape-put : (table : List ℕ) (i : ℕ) (x : Shape) → i < 32 → length table ≡ 128
-    → set (set (set (set table (4 * i) (x .kind)) (4 * i + 1) (x .bound .0)) (4 * i + 2) (x .content)) (4 * i + 3) (x .trust .0)
-    ≡ take (4 * i) table ++ shapeBytes x ++ drop (4 * i + 4) table
-shape-put table i x h e = rw (add-one, add-two, add-three) (sets-eq (shapeBytes x) table (4 * i) (omega arith))
+pub shape-put : (shapes : List ℕ) (i : ℕ) (x : Shape) → i < 32 → length shapes ≡ 128
+    → set (set (set (set shapes (4 * i) (x .kind)) (4 * i + 1) (x .bound .0)) (4 * i + 2) (x .content)) (4 * i + 3) (x .trust .0)
+    ≡ take (4 * i) shapes ++ shapeBytes x ++ drop (4 * i + 4) shapes
+shape-put shapes i x h e = rw (add-one, add-two, add-three) (sets-eq (shapeBytes x) shapes (4 * i) (omega arith))
 
 module _ (s : List ℕ) where
-  pub record Tabled (all left : List ℕ) (n : ℕ) (table : List ℕ) : Type 0 where
+  pub record Tabled (all left : List ℕ) (n : ℕ) (shapes : List ℕ) : Type 0 where
     pub done : List ℕ
     pub room : ℕ
     pub parts : all ≡ done ++ left
-    pub is : table ≡ shapesTable (map (shapeAt s) done) ++ zeros (4 * room)
+    pub is : shapes ≡ shapesTable (map (shapeAt s) done) ++ zeros (4 * room)
     pub count : n ≡ length done
     pub fits : n + room ≡ 32
 
@@ -81,22 +81,22 @@ module _ (s : List ℕ) where
   unfolding shapesTable
   table-start all = record { done = []; room = 32; parts = refl; is = refl; count = refl; fits = refl }
 
-  module _ (all left : List ℕ) (n : ℕ) (table : List ℕ) where
+  module _ (all left : List ℕ) (n : ℕ) (shapes : List ℕ) where
     sized : (done : List ℕ) → n ≡ length done → length (shapesTable (map (shapeAt s) done)) ≡ 4 * n
     sized done e = table-length (map (shapeAt s) done) ∙ ap (λ (k : ℕ). 4 * k) (length-map done (shapeAt s) ∙ sym e)
 
-    pub table-sized : Tabled all left n table → length table ≡ 128
+    pub table-sized : Tabled all left n shapes → length shapes ≡ 128
     table-sized f =
         let a = sized (f .done) (f .count) in
         ap length (f .is) ∙ simp (length-append, length-replicate) (omega (arith, f .fits))
 
-    pub table-room : (o : ℕ) → length all ≤ 32 → Tabled all (o ∷ left) n table → n < 32
+    pub table-room : (o : ℕ) → length all ≤ 32 → Tabled all (o ∷ left) n shapes → n < 32
     table-room o h f =
         let e : length all ≡ length (f .done) + suc (length left) = ap length (f .parts) ∙ length-append (f .done) (o ∷ left) in
         omega (arith, f .count)
 
     pub table-push : (o : ℕ) (x : Shape) (next : List ℕ) → length all ≤ 32 → x ≡ shapeAt s o
-        → next ≡ take (4 * n) table ++ shapeBytes x ++ drop (4 * n + 4) table → Tabled all (o ∷ left) n table → Tabled all left (n + 1) next
+        → next ≡ take (4 * n) shapes ++ shapeBytes x ++ drop (4 * n + 4) shapes → Tabled all (o ∷ left) n shapes → Tabled all left (n + 1) next
     table-push o x next h ex en f = go (f .room) (f .is) (f .fits)
       where
         T : List ℕ
@@ -108,7 +108,7 @@ module _ (s : List ℕ) where
         back : (R : List ℕ) → drop (4 * n + 4) (T ++ R) ≡ drop 4 R
         back R = ap (λ (k : ℕ). drop (k + 4) (T ++ R)) (sym (sized (f .done) (f .count))) ∙ drop-append-add T R 4
 
-        go : (m : ℕ) → table ≡ T ++ zeros (4 * m) → n + m ≡ 32 → Tabled all left (n + 1) next
+        go : (m : ℕ) → shapes ≡ T ++ zeros (4 * m) → n + m ≡ 32 → Tabled all left (n + 1) next
         go zero e g = let r = table-room o h f in absurd (omega arith)
         go (suc m) e g =
             let k : 4 * suc m ≡ suc (suc (suc (suc (4 * m)))) = omega arith in
@@ -127,7 +127,7 @@ module _ (s : List ℕ) where
               fits = omega arith;
             }
 
-    pub table-end : Tabled all [] n table → (table ≡ pad 128 0 (shapesTable (map (shapeAt s) all))) × (n ≡ length all)
+    pub table-end : Tabled all [] n shapes → (shapes ≡ pad 128 0 (shapesTable (map (shapeAt s) all))) × (n ≡ length all)
     table-end f =
         let e : all ≡ f .done = f .parts ∙ append-nil (f .done) in
         let l : n ≡ length all = f .count ∙ ap length (sym e) in
@@ -135,6 +135,6 @@ module _ (s : List ℕ) where
         let m : 4 * f .room ≡ 128 - length (shapesTable (map (shapeAt s) (f .done))) = omega (arith, f .fits) in
         (rw (f .is, e, m), l)
 
-pub shape-read : (table : List ℕ) (i k b c t : ℕ) → k ≡ byteAt table (4 * i) → b ≡ byteAt table (4 * i + 1) → c ≡ byteAt table (4 * i + 2)
-    → t ≡ byteAt table (4 * i + 3) → record { kind = k; bound = label b; content = c; trust = trust t } ≡ shapeIn table i
-shape-read table i k b c t p q r u = shape-eq p q r u
+pub shape-read : (shapes : List ℕ) (i k b c t : ℕ) → k ≡ byteAt shapes (4 * i) → b ≡ byteAt shapes (4 * i + 1) → c ≡ byteAt shapes (4 * i + 2)
+    → t ≡ byteAt shapes (4 * i + 3) → record { kind = k; bound = label b; content = c; trust = trust t } ≡ shapeIn shapes i
+shape-read shapes i k b c t p q r u = shape-eq p q r u

@@ -13,6 +13,7 @@ use native.Mathlib.Omega.{arith}
 use lib.Dec.{eqb, ltb}
 use lib.ListN.{length}
 use borrow.Author.Tests.{lt-ltb, le-ltb, eq-eqb, ne-eqb, eqb-false, ltb-false}
+use Rattle.labels.proofs.Impossible.{impossible}
 use Rattle.book.specs.declared.Fault.{Fault}
 use Rattle.book.specs.declared.Fault.the-variants.{Nowhere, At}
 use Rattle.book.specs.Control.{either, sweep, first}
@@ -122,8 +123,7 @@ module _ (span : ℕ → ℕ) where
         go : (b : Bool) → cutBy span s o ≡ b → Walked s o
         go true c =
             let e : At o ≡ Nowhere = fault-cut s o Nowhere w h c in
-            let z : _≡_ {A = ℕ} 0 1 = cc in
-            absurd (omega arith)
+            impossible cc
         go false c =
             record {
               uncut = c;

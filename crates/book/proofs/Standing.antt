@@ -6,9 +6,9 @@ use mathlib.Core.Path.{_≡_, refl, sym, _∙_}
 use mathlib.Core.Bool.{Bool, true, false}
 use mathlib.Core.List.{List}
 use Prim.Native.Nat.{ℕ, _<_}
-use native.Mathlib.Omega.{arith}
 use lib.ListN.{length}
 use borrow.Author.Tests.{lt-ltb, eq-eqb, eqb-true}
+use Rattle.labels.proofs.Impossible.{impossible}
 use Rattle.book.specs.declared.Step.{Step}
 use Rattle.book.specs.declared.StepAt.{StepAt}
 use Rattle.book.specs.declared.StepAt.the-variants.{NoStep, StepThere}
@@ -31,8 +31,7 @@ module _ (w : List ℕ) (o : ℕ) (whole : Whole w o) (h : o < length w) (x : St
   no e g =
       let k : inGroup w 5 o ≡ true = eq-eqb _ _ g in
       let y : StepThere (stepAt w o) (next w o) ≡ NoStep = sym (simp (lt-ltb _ _ h, k, walk w o whole h .uncut) at ex) ∙ e in
-      let z : _≡_ {A = ℕ} 0 1 = cc in
-      omega arith
+      impossible cc
 
   pub there : (p : Step) (n : ℕ) → x ≡ StepThere p n → Stood w o p n
   unfolding stepFound both
@@ -44,5 +43,4 @@ module _ (w : List ℕ) (o : ℕ) (whole : Whole w o) (h : o < length w) (x : St
           record { kind = eqb-true _ _ k; is = cc; on = cc }
       go false k =
           let y : NoStep ≡ StepThere p n = sym (simp (lt-ltb _ _ h, k) at ex) ∙ e in
-          let z : _≡_ {A = ℕ} 0 1 = cc in
-          absurd (omega arith)
+          impossible cc

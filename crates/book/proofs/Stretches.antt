@@ -1,7 +1,7 @@
 -- Where the blocks' stretches are, by an outline's tables.
---     Block, block             the record of a block stands in the book
---     bound-is, a-is, part-is  its bound, its start, its stretch
---     laids                    for the code: the stretches are in the book, and whole
+--     WholeBlock, block          the record of a block stands in the book
+--     bound-is, a-is, part-is    its bound, its start, its stretch
+--     laids                      for the code: the stretches are in the book, and whole
 -- Assumes nothing.
 use mathlib.Core.Path.{_≡_, refl, sym, ap, _∙_}
 use mathlib.Core.List.{List}
@@ -22,7 +22,7 @@ use Rattle.book.proofs.Part.{parted}
 use Rattle.book.proofs.Blocks.{stands, nth}
 
 -- the block at o, whose record stands in the book
-pub record Block (s : List ℕ) (o : ℕ) : Type 0 where
+pub record WholeBlock (s : List ℕ) (o : ℕ) : Type 0 where
   pub inside : o + 2 ≤ length s
   pub whole : Whole s (o + 2)
 
@@ -43,7 +43,7 @@ module _ (s bounds starts lengths : List ℕ) (u : Laid s bounds starts lengths)
   abbrev pub o : ℕ
   o = getD (blocksOf s) i 0
 
-  pub block : Block s o
+  pub block : WholeBlock s o
   block =
       let x = stands s 4 (u .whole) i blocks in
       let w = walk s o (x .whole) (x .inside) in

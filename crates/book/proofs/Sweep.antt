@@ -1,18 +1,18 @@
 -- Laws of a stage: a sweep over the records from an offset on, as a loop goes through it. z is what the whole sweep gives.
---     sweep-end      at the end of the book
---     sweep-bad      a record at fault
---     sweep-past     past a record that is whole and not at fault
---     sweep-on       the same where all records are whole
+--     sweep-end           at the end of the book
+--     sweep-bad           a record at fault
+--     sweep-past          past a record that is whole and not at fault
+--     sweep-on            the same where all records are whole
 --     Cleared, cleared    of a stage that finds no fault: each record, and the records behind it
 -- Assumes nothing.
 use mathlib.Core.Path.{_≡_, refl, sym, _∙_}
 use mathlib.Core.Bool.{Bool, true, false}
 use mathlib.Core.List.{List, [], _∷_}
 use Prim.Native.Nat.{ℕ, _≤_, _<_}
-use native.Mathlib.Omega.{arith}
 use lib.Dec.{ltb}
 use lib.ListN.{length}
 use borrow.Author.Tests.{ltb-true, ltb-false}
+use Rattle.labels.proofs.Impossible.{impossible}
 use Rattle.book.specs.declared.Fault.{Fault}
 use Rattle.book.specs.declared.Fault.the-variants.{Nowhere, At}
 use Rattle.book.specs.Control.{sweep}
@@ -40,7 +40,7 @@ module _ {S : Type 0} (bad : S → ℕ → Bool) (on : S → ℕ → S) (end : S
     sweep-on b = sweep-past h (walk s o w h .uncut) b
 
 pub somewhere : {X : Type 0} {o : ℕ} → At o ≡ Nowhere → X
-somewhere e = let z : _≡_ {A = ℕ} 0 1 = cc in absurd (omega arith)
+somewhere e = impossible cc
 
 module _ {S : Type 0} (bad : S → ℕ → Bool) (on : S → ℕ → S) (end : S → Fault) (s : List ℕ) where
   -- the record at o is not at fault, and none behind it is
@@ -59,8 +59,7 @@ module _ {S : Type 0} (bad : S → ℕ → Bool) (on : S → ℕ → S) (end : S
           → All Cleared (x ∷ xs)
       go false l b q r =
           let y : x ∷ xs ≡ [] = sym e ∙ records-end s o (ltb-false _ _ l) in
-          let z : _≡_ {A = ℕ} 0 1 = cc in
-          absurd (omega arith)
+          impossible cc
       go true l true q r = somewhere (sweep-bad bad on end s t o Nowhere h w (ltb-true _ _ l) q)
       go true l false q r =
           let k = walk s o w (ltb-true _ _ l) in

@@ -2,12 +2,11 @@
 -- Assumes nothing.
 use mathlib.Core.Path.{_≡_, refl}
 use mathlib.Core.Bool.{Bool, true, false}
-use Prim.Native.Nat.{ℕ}
-use native.Mathlib.Omega.{arith}
+use Rattle.labels.proofs.Impossible.{impossible}
 use Rattle.book.specs.Control.{both, either}
 
 pub clash : {X : Type 0} {b : Bool} → b ≡ true → b ≡ false → X
-clash p q = let z : _≡_ {A = ℕ} 0 1 = cc in absurd (omega arith)
+clash p q = impossible cc
 
 pub both-left : (a b : Bool) → both a b ≡ true → a ≡ true
 unfolding both

@@ -1,16 +1,16 @@
 -- What functions that serve `read`, `check` and `run` ask of their callers. No call that a user makes asks any of it.
---     Whole              from an offset on, every record is whole
---     limit              the largest value of a field of a kind; 255 where any byte will do
---     Small              a book that refusals 1, 2 and 4 do not hold of
---     Clear              a book that refusals 2 to 5 do not hold of
---     Limited, Fixed     the limits of a kind; all that it fixes
---     Fit                a record that refusals 2 and 5 do not hold of
---     Outlined           the outline of such a book
---     Blank, drawn       an outline's tables: zero; and what they make
---     isCellShapeIn           by the table of shapes, whether a shape is a cell shape
---     skipped            where the steps from an offset on end, and how many they are
---     Sound              contents are lower-numbered
---     Listed, Laid       offsets of declared cells; where the blocks' stretches are
+--     Whole             from an offset on, every record is whole
+--     limit             the largest value of a field of a kind; 255 where any byte will do
+--     Small             a book that refusals 1, 2 and 4 do not hold of
+--     Clear             a book that refusals 2 to 5 do not hold of
+--     Limited, Fixed    the limits of a kind; its span too
+--     Fit               a record that refusals 2 and 5 do not hold of
+--     Outlined          the outline of such a book
+--     Blank, drawn      an outline's tables: zero; and what they make
+--     isCellShapeIn     by the table of shapes, whether a shape is a cell shape
+--     skipped           where the steps from an offset on end, and how many they are
+--     Sound             contents are lower-numbered
+--     Listed, Laid      offsets of declared cells; where the blocks' stretches are
 -- Assumes nothing.
 use mathlib.Core.Path.{_≡_}
 use mathlib.Core.List.{List, map}
@@ -73,7 +73,7 @@ pub record Fit (s : List ℕ) (o w : ℕ) : Type 0 where
 
 -- by the table of shapes, the shape of a number is a cell shape
 abbrev pub isCellShapeIn : List ℕ → ℕ → Bool
-isCellShapeIn table i = eqb (shapeIn table i .kind) cellShapeKind
+isCellShapeIn shapes i = eqb (shapeIn shapes i .kind) cellShapeKind
 
 -- the outline of such a book
 pub record Outlined (s : List ℕ) (t : Outline) : Type 0 where
@@ -81,25 +81,34 @@ pub record Outlined (s : List ℕ) (t : Outline) : Type 0 where
   pub is : t ≡ outlineOf s
 
 -- an outline's tables before any record, and the outline that they make
-pub record Blank (shape cell shaped bound start size : List ℕ) : Type 0 where
-  pub shapes : shape ≡ replicate (4 * maxShapes) 0
-  pub cells : cell ≡ replicate maxCells 0
-  pub owners : shaped ≡ replicate maxCells 0
-  pub bounds : bound ≡ replicate maxBlocks 0
-  pub starts : start ≡ replicate maxBlocks 0
-  pub sizes : size ≡ replicate maxBlocks 0
+pub record Blank (shapes offsets shaped bounds starts lengths : List ℕ) : Type 0 where
+  pub no-shapes : shapes ≡ replicate (4 * maxShapes) 0
+  pub no-offsets : offsets ≡ replicate maxCells 0
+  pub no-shaped : shaped ≡ replicate maxCells 0
+  pub no-bounds : bounds ≡ replicate maxBlocks 0
+  pub no-starts : starts ≡ replicate maxBlocks 0
+  pub no-lengths : lengths ≡ replicate maxBlocks 0
 
 abbrev pub drawn : List ℕ → Counts → List ℕ → List ℕ → List ℕ → List ℕ → List ℕ → List ℕ → Outline
-drawn s n shape cell shaped bound start size =
-    record { c = label (byteAt s 1); counts = n; shape = shape; cell = cell; shaped = shaped; bound = bound; start = start; length = size }
+drawn s n shapes offsets shaped bounds starts lengths =
+    record {
+      c = label (byteAt s 1);
+      counts = n;
+      shapes = shapes;
+      offsets = offsets;
+      shaped = shaped;
+      bounds = bounds;
+      starts = starts;
+      lengths = lengths;
+    }
 
 -- contents are lower-numbered: refusal 6
 pub record Sound (shape : ℕ → Shape) : Type 0 where
   pub falls : (i : ℕ) → shape i .kind ≡ cellShapeKind → shape i .content < i
 
 -- at each of these offsets a declared cell stands
-pub record Listed (s os : List ℕ) : Type 0 where
-  pub there : (i : ℕ) → i < length os → cellFound s (getD os i 0) ≡ CellThere (declaredAt s (getD os i 0))
+pub record Listed (s offsets : List ℕ) : Type 0 where
+  pub there : (i : ℕ) → i < length offsets → cellFound s (getD offsets i 0) ≡ CellThere (declaredAt s (getD offsets i 0))
 
 -- the bounds, starts and lengths of the blocks of a book that can be read
 pub record Laid (s bounds starts lengths : List ℕ) : Type 0 where

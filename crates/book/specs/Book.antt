@@ -14,7 +14,8 @@ use Rattle.book.specs.declared.Value.the-variants.{Plain, CellName, Code
 use Rattle.book.specs.declared.Declared.{Declared}
 use Rattle.book.specs.declared.Step.{Step}
 use Rattle.book.specs.declared.Step.the-variants.{Put, Name, Code, Add, New, Read, Write, Relabel, Lower, Start, Exec}
-use Rattle.book.specs.Numbers.{plainShapeKind, codeShapeKind, cellShapeKind, putKind, nameKind, codeKind, addKind, newKind, readKind, writeKind, relabelKind, lowerKind, startKind, shapeGroup, cellGroup, blockGroup, stepGroup, plainValue, cellValue}
+use Rattle.book.specs.Numbers.{plainShapeKind, codeShapeKind, cellShapeKind, putKind, nameKind, codeKind, addKind, newKind, readKind, writeKind, relabelKind}
+use Rattle.book.specs.Numbers.{lowerKind, startKind, shapeGroup, cellGroup, blockGroup, stepGroup, plainValue, cellValue}
 use Rattle.book.specs.Control.{if_then_else_, those, while}
 use Rattle.book.specs.Records.{byteAt, numberAt, records, recordsFrom, inGroup}
 

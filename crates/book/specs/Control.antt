@@ -16,6 +16,7 @@ abbrev pub if_then_else_ {ℓ} : {A : Type ℓ} → Bool → A → A → A
 if true then a else b = a
 if false then a else b = b
 
+-- `_&&_` and `_||_` of the library are abbreviations, open everywhere. These are opened by name, so that a law can be about them.
 unfoldable pub both : Bool → Bool → Bool
 both true b = b
 both false b = false

@@ -1,6 +1,6 @@
 -- The kinds of record: 01, "The job book". One table has all that a kind fixes.
 --     Layout, layouts                  the table: of each kind its group and its fields
---     layoutOf                         the layout of a kind
+--     layoutIn, layoutOf               the layout of a kind
 --     group, limits, span              its group, its fields' largest values, the bytes of its records
 -- Assumes nothing.
 use Prim.Native.Nat.{ℕ, suc}
@@ -9,7 +9,8 @@ use mathlib.Core.List.{List, [], _∷_}
 use lib.ListN.{length}
 use lib.Dec.{eqb}
 use Rattle.book.specs.Control.{if_then_else_}
-use Rattle.book.specs.Numbers.{cKind, plainShapeKind, codeShapeKind, cellShapeKind, cellKind, blockKind, putKind, nameKind, codeKind, addKind, newKind, readKind, writeKind, relabelKind, lowerKind, startKind, execKind}
+use Rattle.book.specs.Numbers.{cKind, plainShapeKind, codeShapeKind, cellShapeKind, cellKind, blockKind, putKind, nameKind, codeKind, addKind, newKind, readKind}
+use Rattle.book.specs.Numbers.{writeKind, relabelKind, lowerKind, startKind, execKind}
 use Rattle.book.specs.Numbers.{noGroup, cGroup, shapeGroup, cellGroup, blockGroup, stepGroup}
 use Rattle.book.specs.Numbers.{maxLabel, maxC, maxRegister, maxValueKind, anyByte, number}
 
@@ -43,7 +44,7 @@ layouts =
     ∷ layout execKind stepGroup (maxRegister ∷ [])
     ∷ []
 
--- the layout of a kind; what is no kind has no fields
+-- the layout of a kind; what is no kind is of no group, and has no fields
 abbrev pub layoutIn : List Layout → ℕ → Layout
 layoutIn [] k = layout k noGroup []
 layoutIn (l ∷ ls) k = elim (eqb (l .kind) k) [ true ↦ l | false ↦ layoutIn ls k ]

@@ -4,6 +4,7 @@ pub mod Kinds
 pub mod Spans
 pub mod Records
 pub mod Book
+pub mod Parts
 pub mod Refusals
 pub mod Outline
 pub mod Stretch

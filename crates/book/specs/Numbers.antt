@@ -1,7 +1,7 @@
 -- The numbers of the format: 01, "The job book".
 --     cKind, .., execKind              the kinds of record
 --     noGroup, .., stepGroup           the groups
---     plainValue, cellValue, codeValue the kinds of value
+--     plainValue, .., codeValue        the kinds of value
 --     maxLabel, .., anyByte, number    the fields, each by its largest value
 --     maxBookBytes, .., maxSteps       how much a book may have
 -- Assumes nothing.
@@ -61,7 +61,7 @@ startKind = 73
 abbrev pub execKind : ℕ
 execKind = 74
 
--- "Groups stand in this order: C, shapes, cells, blocks"; the steps are one more, and what is no kind is of none
+-- "Groups stand in this order: C, shapes, cells, blocks", so they are compared; the steps are one more, and what is no kind is of none
 abbrev pub noGroup : ℕ
 noGroup = 0
 
@@ -104,6 +104,7 @@ maxRegister = 7
 abbrev pub maxValueKind : ℕ
 maxValueKind = 2
 
+-- any byte
 abbrev pub anyByte : ℕ
 anyByte = 255
 

@@ -37,12 +37,12 @@ abbrev pub shapeBytes : Shape → List ℕ
 shapeBytes x = x .kind ∷ x .bound .0 ∷ x .content ∷ x .trust .0 ∷ []
 
 abbrev pub shapeIn : List ℕ → ℕ → Shape
-shapeIn table i =
+shapeIn shapes i =
     record {
-      kind = byteAt table (4 * i);
-      bound = label (byteAt table (4 * i + 1));
-      content = byteAt table (4 * i + 2);
-      trust = trust (byteAt table (4 * i + 3));
+      kind = byteAt shapes (4 * i);
+      bound = label (byteAt shapes (4 * i + 1));
+      content = byteAt shapes (4 * i + 2);
+      trust = trust (byteAt shapes (4 * i + 3));
     }
 
 unfoldable pub shapesTable : List Shape → List ℕ
@@ -71,12 +71,12 @@ outlineOf s =
       c = label (byteAt s 1);
       counts =
           record { shapes = length (shapesOf s); cells = length (cellsOf s); blocks = length (blocksOf s); steps = stepCount s (blocksOf s) };
-      shape = pad (4 * maxShapes) 0 (shapesTable (map (shapeAt s) (shapesOf s)));
-      cell = pad maxCells 0 (cellsOf s);
+      shapes = pad (4 * maxShapes) 0 (shapesTable (map (shapeAt s) (shapesOf s)));
+      offsets = pad maxCells 0 (cellsOf s);
       shaped = pad maxCells 0 (map (λ o. byteAt s (o + 1)) (cellsOf s));
-      bound = pad maxBlocks 0 (map (boundAt s) (blocksOf s));
-      start = pad maxBlocks 0 (map startAt (blocksOf s));
-      length = pad maxBlocks 0 (map (lengthAt s) (blocksOf s));
+      bounds = pad maxBlocks 0 (map (boundAt s) (blocksOf s));
+      starts = pad maxBlocks 0 (map startAt (blocksOf s));
+      lengths = pad maxBlocks 0 (map (lengthAt s) (blocksOf s));
     }
 
 abbrev pub noCounts : Counts
@@ -88,12 +88,12 @@ noOutline =
     record {
       c = label 0;
       counts = noCounts;
-      shape = replicate (4 * maxShapes) 0;
-      cell = replicate maxCells 0;
+      shapes = replicate (4 * maxShapes) 0;
+      offsets = replicate maxCells 0;
       shaped = replicate maxCells 0;
-      bound = replicate maxBlocks 0;
-      start = replicate maxBlocks 0;
-      length = replicate maxBlocks 0;
+      bounds = replicate maxBlocks 0;
+      starts = replicate maxBlocks 0;
+      lengths = replicate maxBlocks 0;
     }
 
 abbrev pub refusedReading : ℕ → ℕ → Reading

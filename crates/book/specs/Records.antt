@@ -1,5 +1,5 @@
 -- The records of a book, by their offsets: "A book is read record by record from its first byte."
---     byteAt, numberAt         a byte, a number
+--     numberAt                 a number; `byteAt` is that of `Spans`
 --     next, cut                the offset past a record; refusal 2 holds of it
 --     recordsFrom, records     the records from an offset on, up to one that refusal 2 holds of
 --     inGroup                  the group of a record

@@ -18,11 +18,11 @@ use Rattle.book.specs.declared.Value.{Value}
 use Rattle.book.specs.declared.Value.the-variants.{Plain, CellName, CodeName}
 use Rattle.book.specs.declared.Declared.{Declared}
 use Rattle.book.specs.declared.Step.{Step}
-use Rattle.book.specs.declared.Step.the-variants.{Put, Name, Code, Add, New, Read, Write, Relabel, Lower, Start, Exec}
 use Rattle.book.specs.Numbers.{cellShapeKind, noGroup, cGroup, shapeGroup, cellGroup, blockGroup, stepGroup, maxShapes, maxCells, maxBlocks, maxSteps, maxBookBytes}
 use Rattle.book.specs.Control.{if_then_else_, both, either, sweep, first}
 use Rattle.book.specs.Kinds.{limits, group}
 use Rattle.book.specs.Records.{byteAt, records, cut, inGroup}
+use Rattle.book.specs.Parts.{Reference, toNothing, toCell, toBlock, toCellShape, partsOf}
 use Rattle.book.specs.Book.{Book, parse, declaredAt, stepAt}
 
 -- 2: "A kind is none of the above, or the book ends inside a body."
@@ -84,22 +84,19 @@ valueNamed cells blocks (CodeName n) = ltb n blocks
 
 -- whose cell shapes are these
 module _ (isCellShape : ℕ → Bool) (cells blocks : ℕ) where
-  -- "a cell or new names no cell shape"
+  -- "a cell or new names no cell shape": a cell
   unfoldable pub cellNamed : Declared → Bool
   cellNamed d = both (isCellShape (d .shape)) (valueNamed cells blocks (d .value))
 
+  -- the same of new, and "a declared cell or block number does not exist" of a step
+  abbrev pub refers : Reference → Bool
+  refers toNothing = true
+  refers (toCell k) = ltb k cells
+  refers (toBlock b) = ltb b blocks
+  refers (toCellShape i) = isCellShape i
+
   unfoldable pub stepNamed : Step → Bool
-  stepNamed (Put r n) = true
-  stepNamed (Name r k) = ltb k cells
-  stepNamed (Code r b) = ltb b blocks
-  stepNamed (Add r a b) = true
-  stepNamed (New r i a) = isCellShape i
-  stepNamed (Read r w) = true
-  stepNamed (Write w a) = true
-  stepNamed (Relabel w l) = true
-  stepNamed (Lower l) = true
-  stepNamed (Start b) = ltb b blocks
-  stepNamed (Exec w) = true
+  stepNamed p = refers (partsOf p .names)
 
   -- the record at o, before which n shapes stand: "A content shape is not lower-numbered than its cell shape, .."
   unfoldable pub dangling : List ℕ → ℕ → ℕ → Bool

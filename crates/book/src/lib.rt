@@ -86,14 +86,14 @@ pub struct Outline {
     pub c: Label,
     pub counts: Counts,
     // Of each shape four bytes: kind, bound, content shape, trust.
-    pub shape: [u8; 128],
+    pub shapes: [u8; 128],
     // Of each declared cell the offset of its record, and its shape.
-    pub cell: [u16; 32],
+    pub offsets: [u16; 32],
     pub shaped: [u8; 32],
     // Of each block its bound, the offset of its first step, and the length of its steps in bytes.
-    pub bound: [u8; 64],
-    pub start: [u16; 64],
-    pub length: [u16; 64],
+    pub bounds: [u8; 64],
+    pub starts: [u16; 64],
+    pub lengths: [u16; 64],
 }
 
 // What reading a book gives. After a refusal the outline is 0.
@@ -147,12 +147,12 @@ impl Outline {
                 blocks: 0,
                 steps: 0,
             },
-            shape: [0u8; 128],
-            cell: [0u16; 32],
+            shapes: [0u8; 128],
+            offsets: [0u16; 32],
             shaped: [0u8; 32],
-            bound: [0u8; 64],
-            start: [0u16; 64],
-            length: [0u16; 64],
+            bounds: [0u8; 64],
+            starts: [0u16; 64],
+            lengths: [0u16; 64],
         }
     }
 }

@@ -5,10 +5,10 @@ use mathlib.Core.Path.{_≡_, sym, ap, _∙_}
 use mathlib.Core.Bool.{Bool, true, false}
 use mathlib.Core.List.{List}
 use Prim.Native.Nat.{ℕ, _+_, _≤_, _<_}
-use native.Mathlib.Omega.{arith}
 use native.Mathlib.Numerals.{add-one}
 use lib.ListN.{length, getD, drop, drop-of-length-le}
 use lib.Seq.{drop-cons}
+use Rattle.labels.proofs.Impossible.{impossible}
 use Rattle.book.specs.declared.Fault.{Fault}
 use Rattle.book.specs.declared.Fault.the-variants.{Nowhere, At}
 use Rattle.book.specs.declared.Declared.{Declared}
@@ -34,8 +34,7 @@ module _ (B : View) (s os : List ℕ) (i : ℕ) (z : Fault) (inv : cellFault B s
     pub cell-none : x ≡ NoCell → Nowhere ≡ z
     cell-none e =
         let y : NoCell ≡ CellThere (declaredAt s (getD os i 0)) = sym e ∙ listed in
-        let c : _≡_ {A = ℕ} 0 1 = cc in
-        absurd (omega arith)
+        impossible cc
 
     module _ (d : Declared) (b : Bool) (e : x ≡ CellThere d) (eb : b ≡ declaredOk B d) where
       ok : declaredOk B (declaredAt s (getD os i 0)) ≡ b

@@ -6,8 +6,8 @@ use mathlib.Core.Path.{_≡_, refl, sym, ap, _∙_, fun-ext}
 use mathlib.Core.List.{List, [], _∷_, map, map-map}
 use mathlib.Core.Option.{Option}
 use Prim.Native.Nat.{ℕ, zero, suc, _-_}
-use native.Mathlib.Omega.{arith}
 use lib.ListN.{getElem?, take, drop}
+use Rattle.labels.proofs.Impossible.{impossible}
 use Rattle.labels.specs.declared.Label.{Label}
 use Rattle.book.specs.declared.Shape.{Shape}
 use Rattle.book.specs.declared.Declared.{Declared}
@@ -22,7 +22,7 @@ use Rattle.book.specs.Book.{Block, cellsOf, blocksOf, declaredAt, blockAt, pars
 use Rattle.book.specs.Refusals.{unreadable}
 use Rattle.book.specs.Outline.{boundAt, outlineOf, readingOf, reading}
 use Rattle.book.proofs.Blocks.{passed, outline-is}
-use Rattle.book.proofs.Outlines.{shape-is, owners-are, bounds-are, cells-are}
+use Rattle.book.proofs.Outlines.{shape-is, shaped-are, bounds-are, cells-are}
 use Rattle.typing.specs.declared.Verdict.{Verdict}
 use Rattle.typing.specs.declared.Verdict.the-variants.{Accepted, Refused}
 use Rattle.typing.specs.Shapes.{View, viewOf}
@@ -39,17 +39,21 @@ view-eq : {c c′ : Label} {f f′ : ℕ → Shape} {g g′ : ℕ → Option ℕ
     → _≡_ {A = View} (record { c = c; shape = f; cell = g; bound = h }) (record { c = c′; shape = f′; cell = g′; bound = h′ })
 view-eq p q r u = cc
 
+-- what typing asks, from an outline's tables
+abbrev outlineView : Outline → View
+outlineView t = tableView (t .c) (t .shapes) (take (t .counts .cells - 0) (drop 0 (t .shaped))) (take (t .counts .blocks - 0) (drop 0 (t .bounds)))
+
 module _ (s : List ℕ) (e : unreadable s ≡ Passed) (t : Outline) (et : t ≡ outlineOf s) where
-  view-is : tableView (t .c) (t .shape) (take (t .counts .cells - 0) (drop 0 (t .shaped))) (take (t .counts .blocks - 0) (drop 0 (t .bound))) ≡ viewOf (parse s)
+  view-is : outlineView t ≡ viewOf (parse s)
   unfolding viewOf parse outlineOf declaredAt
   view-is =
       view-eq
       (ap (λ (t : Outline). t .c) et)
       (fun-ext (shape-is s e t et))
-      (ap getElem? (owners-are s e t et ∙ sym (map-map (λ (d : Declared). d .shape) (declaredAt s) (cellsOf s))))
+      (ap getElem? (shaped-are s e t et ∙ sym (map-map (λ (d : Declared). d .shape) (declaredAt s) (cellsOf s))))
       (fun-ext (λ b. ap (λ (l : List ℕ). asLabel (getElem? l b)) (bounds-are s e t et) ∙ bound-get s (blocksOf s) b))
 
-  module _ (x : Fault) (ex : x ≡ cellFault (tableView (t .c) (t .shape) (take (t .counts .cells - 0) (drop 0 (t .shaped))) (take (t .counts .blocks - 0) (drop 0 (t .bound)))) s (take (t .counts .cells - 0) (drop 0 (t .cell)))) where
+  module _ (x : Fault) (ex : x ≡ cellFault (outlineView t) s (take (t .counts .cells - 0) (drop 0 (t .offsets)))) where
     cell-fault : cellFault (viewOf (parse s)) s (cellsOf s) ≡ x
     cell-fault = sym (ex ∙ rw (view-is, cells-are s e t et) refl)
 
@@ -57,7 +61,7 @@ module _ (s : List ℕ) (e : unreadable s ≡ Passed) (t : Outline) (et : t ≡ 
     unfolding typed orRefused
     refuse7 o q = simp (cell-fault, q)
 
-    module _ (q : x ≡ Nowhere) (y : Fault) (ey : y ≡ stepFault (tableView (t .c) (t .shape) (take (t .counts .cells - 0) (drop 0 (t .shaped))) (take (t .counts .blocks - 0) (drop 0 (t .bound)))) s (blocksOf s)) where
+    module _ (q : x ≡ Nowhere) (y : Fault) (ey : y ≡ stepFault (outlineView t) s (blocksOf s)) where
       step-fault : stepFault (viewOf (parse s)) s (blocksOf s) ≡ y
       step-fault = sym (ey ∙ rw view-is refl)
 
@@ -80,8 +84,7 @@ module _ (s : List ℕ) (r : Reading) (er : r ≡ reading s) where
       go : (x : Refusal) → unreadable s ≡ x → Refused n o ≡ verdictOf (unreadable s) s
       go Passed q =
           let y : r .refusal ≡ Passed = ap (λ (x : Reading). x .refusal) (er ∙ ap (λ (x : Refusal). readingOf x s) q) in
-          let c : _≡_ {A = ℕ} 0 1 = cc in
-          absurd (omega arith)
+          impossible cc
       go (R.Refused m p) q =
           let y : r .refusal ≡ R.Refused m p = ap (λ (x : Reading). x .refusal) (er ∙ ap (λ (x : Refusal). readingOf x s) q) in
           let a : n ≡ m = cc in

@@ -16,36 +16,36 @@ ghost use Rattle.checking.specs.Asked.{stretchFault};
 
 // The first step of a block's stretch that breaks its rule, by its offset in the book, where the stretch starts at start.
 pub fn check_block(
-    table: &[u8],
-    owners: &[u8],
+    shapes: &[u8],
+    shaped: &[u8],
     bounds: &[u8],
     c: Label,
     stretch: &[u8],
     start: usize,
     bound: Label,
 ) -> Fault
-    requires { ⌜ Sound (shapeIn (now table)) × Whole (now stretch) 0 × (start + length (now stretch) ≤ 65536) ⌝ }
-    ensures { λ x. ⌜ x ≡ stretchFault (tableView c (now (table .entry)) (now (owners .entry)) (now (bounds .entry))) (now (stretch .entry)) start bound ⌝ }
+    requires { ⌜ Sound (shapeIn (now shapes)) × Whole (now stretch) 0 × (start + length (now stretch) ≤ 65536) ⌝ }
+    ensures { λ x. ⌜ x ≡ stretchFault (tableView c (now (shapes .entry)) (now (shaped .entry)) (now (bounds .entry))) (now (stretch .entry)) start bound ⌝ }
 {
-    let mut s = State::fresh(bound);
+    let mut t = State::fresh(bound);
     let mut o: usize = 0;
     while o < stretch.len() {
         let StepAt::StepThere(p, next) = decode::step_at(stretch, o) else {
             return Fault::Nowhere;
         };
-        let x = typing::type_step(table, owners, bounds, c, s, p);
+        let x = typing::type_step(shapes, shaped, bounds, c, t, p);
         match x {
             Stepped::Passes => o = next,
             Stepped::Gives(r, given) => {
                 let i = r as usize;
                 if i < 8 {
-                    s.registers[i] = given;
+                    t.registers[i] = given;
                 }
                 o = next;
             }
             Stepped::Lowers(q) => {
-                s.p = q;
-                s.lowered = true;
+                t.p = q;
+                t.lowered = true;
                 o = next;
             }
             Stepped::Stuck => return Fault::Nowhere,
@@ -58,15 +58,15 @@ pub fn check_block(
 // The first step of a book that breaks its rule: each block's stretch, one after the other.
 pub fn step_fault(
     book: &[u8],
-    table: &[u8],
-    owners: &[u8],
+    shapes: &[u8],
+    shaped: &[u8],
     bounds: &[u8],
     c: Label,
     starts: &[u16],
     lengths: &[u16],
 ) -> Fault
-    requires { ⌜ Sound (shapeIn (now table)) × Laid (now book) (now bounds) (now starts) (now lengths) ⌝ }
-    ensures { λ x. ⌜ x ≡ stepFault (tableView c (now (table .entry)) (now (owners .entry)) (now (bounds .entry))) (now (book .entry)) (blocksOf (now (book .entry))) ⌝ }
+    requires { ⌜ Sound (shapeIn (now shapes)) × Laid (now book) (now bounds) (now starts) (now lengths) ⌝ }
+    ensures { λ x. ⌜ x ≡ stepFault (tableView c (now (shapes .entry)) (now (shaped .entry)) (now (bounds .entry))) (now (book .entry)) (blocksOf (now (book .entry))) ⌝ }
 {
     let mut i: usize = 0;
     while i < bounds.len() {
@@ -75,7 +75,7 @@ pub fn step_fault(
         let end = start + length;
         let stretch = &book[start..end];
         let bound = Label(bounds[i]);
-        if let Fault::At(o) = check_block(table, owners, bounds, c, stretch, start, bound) {
+        if let Fault::At(o) = check_block(shapes, shaped, bounds, c, stretch, start, bound) {
             return Fault::At(o);
         }
         i = i + 1;

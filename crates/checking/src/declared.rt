@@ -11,22 +11,22 @@ ghost use Rattle.typing.specs.Asked.{tableView};
 // The first declared cell that breaks its rule.
 pub fn cell_fault(
     book: &[u8],
-    table: &[u8],
-    owners: &[u8],
+    shapes: &[u8],
+    shaped: &[u8],
     bounds: &[u8],
     c: Label,
-    cells: &[u16],
+    offsets: &[u16],
 ) -> Fault
-    requires { ⌜ Sound (shapeIn (now table)) × Listed (now book) (now cells) ⌝ }
-    ensures { λ r. ⌜ r ≡ cellFault (tableView c (now (table .entry)) (now (owners .entry)) (now (bounds .entry))) (now (book .entry)) (now (cells .entry)) ⌝ }
+    requires { ⌜ Sound (shapeIn (now shapes)) × Listed (now book) (now offsets) ⌝ }
+    ensures { λ r. ⌜ r ≡ cellFault (tableView c (now (shapes .entry)) (now (shaped .entry)) (now (bounds .entry))) (now (book .entry)) (now (offsets .entry)) ⌝ }
 {
     let mut i: usize = 0;
-    while i < cells.len() {
-        let o = records::offset_of(cells[i]);
+    while i < offsets.len() {
+        let o = records::offset_of(offsets[i]);
         let CellAt::CellThere(d) = decode::cell_at(book, o) else {
             return Fault::Nowhere;
         };
-        if typing::is_declared_ok(table, owners, bounds, c, d) {
+        if typing::is_declared_ok(shapes, shaped, bounds, c, d) {
             i = i + 1;
         } else {
             return Fault::At(o);

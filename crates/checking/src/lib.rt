@@ -21,24 +21,24 @@ fn type_book(book: &[u8], t: Outline) -> Verdict
     let n = t.counts;
     let k = n.cells;
     let b = n.blocks;
-    let table = t.shape;
-    let shaped = t.shaped;
-    let bound = t.bound;
-    let cell = t.cell;
-    let owners = &shaped[0..k];
-    let bounds = &bound[0..b];
-    let cells = &cell[0..k];
-    if let Fault::At(o) = declared::cell_fault(book, &table, owners, bounds, c, cells) {
+    let shapes = t.shapes;
+    let all_shaped = t.shaped;
+    let all_bounds = t.bounds;
+    let all_offsets = t.offsets;
+    let shaped = &all_shaped[0..k];
+    let bounds = &all_bounds[0..b];
+    let offsets = &all_offsets[0..k];
+    if let Fault::At(o) = declared::cell_fault(book, &shapes, shaped, bounds, c, offsets) {
         return Verdict::Refused {
             number: 7,
             place: o,
         };
     }
-    let start = t.start;
-    let length = t.length;
-    let starts = &start[0..b];
-    let lengths = &length[0..b];
-    if let Fault::At(o) = blocks::step_fault(book, &table, owners, bounds, c, starts, lengths) {
+    let all_starts = t.starts;
+    let all_lengths = t.lengths;
+    let starts = &all_starts[0..b];
+    let lengths = &all_lengths[0..b];
+    if let Fault::At(o) = blocks::step_fault(book, &shapes, shaped, bounds, c, starts, lengths) {
         return Verdict::Refused {
             number: 8,
             place: o,

@@ -1,4 +1,4 @@
-// What a program reads ok: standard input, or the file that an argument names. Where that fails it says so on standard error.
+// What a program reads: standard input, or the file that an argument names. Where that fails it says so on standard error.
 ghost use mathlib.Core.Path.{_≡_};
 ghost use Rattle.io.specs.Counts.{Counts};
 

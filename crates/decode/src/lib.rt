@@ -51,14 +51,14 @@ pub fn decode_shape(s: &[u8], o: usize) -> Shape
 }
 
 // A shape of a table of shapes; past its end none, whose kind is 0.
-pub fn shape_in(table: &[u8], i: u8) -> Shape
-    ensures { λ r. ⌜ r ≡ shapeIn (now (table .entry)) i ⌝ }
+pub fn shape_in(shapes: &[u8], i: u8) -> Shape
+    ensures { λ r. ⌜ r ≡ shapeIn (now (shapes .entry)) i ⌝ }
 {
     let at = 4 * (i as usize);
-    let kind = records::byte(table, at);
-    let bound = records::byte(table, at + 1);
-    let content = records::byte(table, at + 2);
-    let trust = records::byte(table, at + 3);
+    let kind = records::byte(shapes, at);
+    let bound = records::byte(shapes, at + 1);
+    let content = records::byte(shapes, at + 2);
+    let trust = records::byte(shapes, at + 3);
     Shape {
         kind: kind,
         bound: Label(bound),

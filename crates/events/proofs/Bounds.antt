@@ -10,11 +10,11 @@ use lib.Dec.{ltb}
 use lib.ListN.{length}
 use borrow.Author.Tests.{ltb-false}
 use Rattle.book.specs.declared.Refusal.the-variants.{Passed, Refused}
-use Rattle.book.proofs.Bounds.{Placed, sweep-clean, offsets-below, stage, none-refused}
+use Rattle.book.proofs.Bounds.{PlacedIn, sweep-clean, offsets-below, stage, none-refused}
 use Rattle.events.specs.Bytes.{eventSpan, eventFault, unplayable}
 
 module _ (s : List ℕ) where
-  fault-placed : Placed (length s) (eventFault s)
+  fault-placed : PlacedIn (length s) (eventFault s)
   unfolding eventFault
   fault-placed = sweep-clean _ _ (length s) (offsets-below eventSpan s 0) tt
 

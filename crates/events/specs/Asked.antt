@@ -6,9 +6,10 @@ use mathlib.Core.List.{List}
 use Prim.Native.Nat.{ℕ, _+_, _*_, _<_, _≤_}
 use lib.ListN.{length}
 use Rattle.book.specs.Records.{byteAt}
+use Rattle.events.specs.Bytes.{stepEvent}
 
--- from an offset on stand n whole events of kind 80, and behind them the offset o
+-- from an offset on stand n whole events of a step, and behind them the offset o
 pub record Steps (l : List ℕ) (from o n : ℕ) : Type 0 where
   pub past : o ≡ from + 2 * n
   pub inside : o ≤ length l
-  pub step : (i : ℕ) → i < n → byteAt l (from + 2 * i) ≡ 80
+  pub step : (i : ℕ) → i < n → byteAt l (from + 2 * i) ≡ stepEvent

@@ -1,7 +1,7 @@
 -- The event list as bytes: 01, "The machine", and refusal 9.
 --     stepEvent, .., startEvent, maxListBytes    the kinds of event; how long a list may be
---     eventSpan                                       the bytes of an event of a kind
---     nextEvent, eventCut, offsetsFrom                     the events by their offsets
+--     eventSpan                                  the bytes of an event of a kind
+--     nextEvent, eventCut, offsetsFrom           the events by their offsets
 --     eventAt, eventsFrom, eventsIn              what they say
 --     eventFault, unplayable, scanned            refusal 9, and what the scan of a list hands back
 -- Assumes nothing.

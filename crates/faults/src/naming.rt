@@ -9,7 +9,7 @@ use book::kind;
 ghost use mathlib.Core.Path.{_≡_};
 ghost use Prim.Native.Nat.{_<_};
 ghost use lib.ListN.{length};
-ghost use Rattle.book.specs.Refusals.{valueNamed, cellNamed, stepNamed, dangling, nameFault};
+ghost use Rattle.book.specs.Refusals.{cellNamed, stepNamed, dangling, nameFault};
 ghost use Rattle.book.specs.Asked.{Outlined, isCellShapeIn};
 
 // The shape of this number is a cell shape.
@@ -77,7 +77,7 @@ pub fn name_fault(s: &[u8], t: Outline) -> Fault
     requires { ⌜ Outlined (now s) t ⌝ }
     ensures { λ r. ⌜ r ≡ nameFault (now (s .entry)) ⌝ }
 {
-    let shapes = t.shape;
+    let shapes = t.shapes;
     let cells = t.counts.cells;
     let blocks = t.counts.blocks;
     let mut o: usize = 0;

@@ -21,7 +21,7 @@ use Rattle.book.specs.Book.{Book, Block}
 use Rattle.book.proofs.Every.{All}
 use Rattle.book.proofs.Tests.{both-left, both-right}
 use Rattle.typing.specs.declared.Known.the-variants as N
-use Rattle.typing.specs.Shapes.{viewOf, isCellShape, contentOf, countedTrust, highTrust, fits, knownValue, declaredOk}
+use Rattle.typing.specs.Shapes.{viewOf, isCellShape, contentOf, countedTrust, isHighTrust, fits, knownValue, declaredOk}
 use Rattle.machine.specs.Histories.{sources}
 use Rattle.machine.specs.Events.{blockOf, launchLabel, declared, freshState}
 use Rattle.integrity.proofs.Trees.{Grounded, Tree, cell, tree-cell, tree-trust}
@@ -69,14 +69,14 @@ module _ (K : Book) (a : Accepted K) where
           rw e (omega arith)
 
   -- "A declared cell of trust above C needs label at least trust and a fitting value."
-  declared-rule : (d : Declared) → declaredOk (viewOf K) d ≡ true → highTrust (K .c) (shapeOf K) (d .shape) ≡ true
+  declared-rule : (d : Declared) → declaredOk (viewOf K) d ≡ true → isHighTrust (K .c) (shapeOf K) (d .shape) ≡ true
       → both (isMet (countedTrust (K .c) (shapeOf K) (d .shape)) (d .label))
       (fits (K .c) (shapeOf K) (knownValue (getElem? (shapesOf (K .cells))) (getElem? (boundsOf (K .blocks))) (d .value)) (contentOf (K .c) (shapeOf K) (d .shape)))
       ≡ true
   unfolding declaredOk viewOf
   declared-rule d e p = simp p at e
 
-  declared-good : (d : Declared) → declaredOk (viewOf K) d ≡ true → (b : Bool) → highTrust (K .c) (shapeOf K) (d .shape) ≡ b
+  declared-good : (d : Declared) → declaredOk (viewOf K) d ≡ true → (b : Bool) → isHighTrust (K .c) (shapeOf K) (d .shape) ≡ b
       → (t : Tree) (S : ℕ) → treeOf K (d .shape) ≡ cell t S → Good K first (declared sources d) t S
   declared-good d e false p t S q = let z = tree-trust (K .c) (shapeOf K) (d .shape) t S q in low-good K first _ t S (omega facts)
   declared-good d e true p t S q =
@@ -94,7 +94,7 @@ module _ (K : Book) (a : Accepted K) where
 
   declared-ok : (ds : List Declared) → All (λ d. declaredOk (viewOf K) d ≡ true) ds → All (CellOk K first) (map (declared sources) ds)
   declared-ok [] h = tt
-  declared-ok (d ∷ ds) h = (λ t S e. declared-good d (h .0) (highTrust (K .c) (shapeOf K) (d .shape)) refl t S e, declared-ok ds (h .1))
+  declared-ok (d ∷ ds) h = (λ t S e. declared-good d (h .0) (isHighTrust (K .c) (shapeOf K) (d .shape)) refl t S e, declared-ok ds (h .1))
 
   pub fresh-state-ok : (l : Label) → l .0 ≤ launchLabel K .0 → Invariant K (freshState sources K l)
   fresh-state-ok l p =

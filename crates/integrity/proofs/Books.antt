@@ -4,8 +4,9 @@
 -- Assumes nothing.
 use Prim.Native.Nat.{ℕ, zero, suc}
 use mathlib.Core.List.{List, [], _∷_, _++_}
+use Rattle.book.specs.Numbers.{plainValue, cellValue, codeValue}
 use Rattle.machine.specs.declared.Event.{Event}
-use Rattle.machine.specs.declared.Event.the-variants.{StepOf, WriteBy, RelabelBy, NewBy, ExecBy, StartBy}
+use Rattle.machine.specs.declared.Event.the-variants.{StepOf}
 
 -- records, as bytes; numbers are below 256
 abbrev pub plain : List ℕ
@@ -16,16 +17,6 @@ code bound = 0x11 ∷ bound ∷ []
 
 abbrev pub cell : ℕ → ℕ → List ℕ
 cell content trust = 0x12 ∷ content ∷ trust ∷ []
-
--- value kinds
-abbrev pub number : ℕ
-number = 0
-
-abbrev pub naming : ℕ
-naming = 1
-
-abbrev pub coding : ℕ
-coding = 2
 
 abbrev pub declare : ℕ → ℕ → ℕ → ℕ → List ℕ
 declare shape label kind n = 0x20 ∷ shape ∷ label ∷ kind ∷ n ∷ 0 ∷ 0 ∷ 0 ∷ []
@@ -86,32 +77,32 @@ steps (suc n) i es = StepOf i ∷ steps n i es
 -- cell 1, of code of bound 12, holds block 1, of bound 3; job 0 runs it, at 12
 abbrev pub codeBelow : List ℕ
 codeBelow =
-    book (code 12 ∷ cell 0 12 ∷ plain ∷ cell 2 12 ∷ declare 3 12 number 5 ∷ declare 1 12 coding 1 ∷ block 12 ∷ name 0 1 ∷ exec 0
+    book (code 12 ∷ cell 0 12 ∷ plain ∷ cell 2 12 ∷ declare 3 12 plainValue 5 ∷ declare 1 12 codeValue 1 ∷ block 12 ∷ name 0 1 ∷ exec 0
     ∷ spoil ∷ [])
 
 -- cell 1, of code of bound 3, holds block 1; cell 2 names it as one of bound 12, and job 0 runs it by that name, at 12
 abbrev pub codeAsLarger : List ℕ
 codeAsLarger =
-    book (code 12 ∷ cell 0 12 ∷ code 3 ∷ cell 2 12 ∷ cell 1 12 ∷ plain ∷ cell 5 12 ∷ declare 6 12 number 5 ∷ declare 3 12 coding 1
-    ∷ declare 4 12 naming 1 ∷ block 12 ∷ name 0 2 ∷ read 0 0 ∷ exec 0 ∷ spoil ∷ [])
+    book (code 12 ∷ cell 0 12 ∷ code 3 ∷ cell 2 12 ∷ cell 1 12 ∷ plain ∷ cell 5 12 ∷ declare 6 12 plainValue 5 ∷ declare 3 12 codeValue 1
+    ∷ declare 4 12 cellValue 1 ∷ block 12 ∷ name 0 2 ∷ read 0 0 ∷ exec 0 ∷ spoil ∷ [])
 
 -- cell 2, of names of cells of this trust, names cell 0, of low trust; by it job 0 reads what is in cell 0, and writes that into cell 1, of
 -- this trust
 abbrev pub namedAsTrusted : ℕ → List ℕ
 namedAsTrusted trust =
-    book (plain ∷ cell 0 0 ∷ cell 0 trust ∷ cell 2 trust ∷ declare 1 0 number 0 ∷ declare 2 trust number 5
-    ∷ declare 3 trust naming 0 ∷ block 12 ∷ name 0 2 ∷ read 0 0 ∷ read 0 0 ∷ name 1 1 ∷ write 1 0 ∷ [])
+    book (plain ∷ cell 0 0 ∷ cell 0 trust ∷ cell 2 trust ∷ declare 1 0 plainValue 0 ∷ declare 2 trust plainValue 5
+    ∷ declare 3 trust cellValue 0 ∷ block 12 ∷ name 0 2 ∷ read 0 0 ∷ read 0 0 ∷ name 1 1 ∷ write 1 0 ∷ [])
 
 -- job 0 reads what is in cell 1, of low trust, and writes it into cell 0, of this trust
 abbrev pub readLow : ℕ → List ℕ
 readLow trust =
-    book (plain ∷ cell 0 trust ∷ cell 0 0 ∷ declare 1 trust number 5 ∷ declare 2 0 number 0 ∷ block 12 ∷ name 0 1 ∷ read 0 0
+    book (plain ∷ cell 0 trust ∷ cell 0 0 ∷ declare 1 trust plainValue 5 ∷ declare 2 0 plainValue 0 ∷ block 12 ∷ name 0 1 ∷ read 0 0
     ∷ name 1 0 ∷ write 1 0 ∷ [])
 
 -- job 0 gives cell 0, of this trust and label, the label o
 abbrev pub relabelled : ℕ → ℕ → ℕ → List ℕ
 relabelled trust bound o =
-    book (plain ∷ cell 0 trust ∷ declare 1 trust number 5 ∷ block bound ∷ name 0 0 ∷ relabel 0 o ∷ [])
+    book (plain ∷ cell 0 trust ∷ declare 1 trust plainValue 5 ∷ block bound ∷ name 0 0 ∷ relabel 0 o ∷ [])
 
 -- job 0 makes a cell of this trust
 abbrev pub made : ℕ → ℕ → List ℕ
@@ -131,4 +122,4 @@ loweredLow =
 -- cell 0, of this trust and label
 abbrev pub held : ℕ → List ℕ
 held trust =
-    book (plain ∷ cell 0 trust ∷ declare 1 trust number 5 ∷ block 12 ∷ [])
+    book (plain ∷ cell 0 trust ∷ declare 1 trust plainValue 5 ∷ block 12 ∷ [])

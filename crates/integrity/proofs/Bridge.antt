@@ -9,6 +9,7 @@ use native.Mathlib.Omega.{arith}
 use lib.Dec.{eqb, ltb}
 use lib.ListN.{getD}
 use borrow.Author.Tests.{eqb-true, ltb-false, not-false}
+use Rattle.labels.proofs.Impossible.{impossible}
 use Rattle.book.specs.declared.Shape.{Shape}
 use Rattle.book.specs.declared.Step.{Step}
 use Rattle.book.specs.declared.Fault.{Fault}
@@ -23,7 +24,7 @@ use Rattle.book.specs.Refusals.{noShape, above, outOfRange, rangeFault, unreada
 use Rattle.book.proofs.Every.{All, all-get, mapped, those-all}
 use Rattle.book.proofs.Tests.{either-left, either-right}
 use Rattle.book.proofs.Sweep.{somewhere}
-use Rattle.book.proofs.Lower.{lower}
+use Rattle.book.proofs.Lower.{content-lower}
 use Rattle.book.proofs.Readable.{readable}
 use Rattle.typing.specs.declared.State.{State}
 use Rattle.typing.specs.declared.Verdict.{Verdict}
@@ -118,12 +119,12 @@ module _ (m n k l : ℕ) where
   pub passed : (r : Refusal) (s : List ℕ) → verdictOf r s ≡ Verdicts.Accepted m n k l → (r ≡ B.Passed) × (typed s ≡ Verdicts.Accepted m n k l)
   unfolding verdictOf
   passed B.Passed s e = (refl, e)
-  passed (B.Refused i o) s e = let z : _≡_ {A = ℕ} 0 1 = cc in absurd (omega arith)
+  passed (B.Refused i o) s e = impossible cc
 
   stage : (i : ℕ) (f : Fault) (x : Verdict) → orRefused i f x ≡ Verdicts.Accepted m n k l → (f ≡ Nowhere) × (x ≡ Verdicts.Accepted m n k l)
   unfolding orRefused
   stage i Nowhere x e = (refl, e)
-  stage i (At o) x e = let z : _≡_ {A = ℕ} 0 1 = cc in absurd (omega arith)
+  stage i (At o) x e = impossible cc
 
   faultless : (s : List ℕ) → typed s ≡ Verdicts.Accepted m n k l
       → (cellFault (viewOf (parse s)) s (cellsOf s) ≡ Nowhere) × (stepFault (viewOf (parse s)) s (blocksOf s) ≡ Nowhere)
@@ -141,7 +142,7 @@ module _ (m n k l : ℕ) where
       let t : (i : ℕ) → Trusty (getD (parse s .shapes) i noShape) =
       λ i. all-get Trusty (parse s .shapes) i noShape (trusties s (r .narrow)) (record { small = omega arith; cellular = λ (h : 0 < 0). absurd (omega arith) }) in
       record {
-        sound = record { falls = lower s (r .named) };
+        sound = record { falls = content-lower s (r .named) };
         labels = λ i. t i .small;
         cellular = λ i h. t i .cellular (omega arith);
         cells = declareds s (viewOf (parse s)) (f .0);

@@ -2,10 +2,8 @@
 --     turn-by, outcome-by, state-by     a step, an event, a list of events
 --     same-machine                      the whole
 -- Assumes nothing.
-use Prim.Native.Nat.{ℕ}
 use mathlib.Core.Path.{_≡_, refl, ap, _∙_}
 use mathlib.Core.List.{List, [], _∷_}
-use mathlib.Core.Option.{Option, none, some}
 use lib.ListN.{getElem?}
 use Rattle.book.specs.declared.Step.{Step}
 use Rattle.book.specs.declared.Step.the-variants.{Put, Name, Code, Add, New, Read, Write, Relabel, Lower, Start, Exec}
@@ -17,7 +15,7 @@ use Rattle.machine.specs.Histories.{History, lists}
 use Rattle.machine.specs.States.{Job, State}
 use Rattle.machine.specs.Acts.{writeAct, relabelAct, execAct}
 use Rattle.machine.specs.Steps.{lowerStep, turnOf}
-use Rattle.machine.specs.Events.{Outcome, tableSize, finished, noSuch, blockOf, unchanged, turnLanded, outcomeOf, stateAfter}
+use Rattle.machine.specs.Events.{Outcome, tableSize, noStepLeft, noSuch, blockOf, unchanged, turnLanded, outcomeOf, stateAfter}
 use Rattle.integrity.specs.Loosened.{writeActBy, relabelActBy, execActBy, lowerStepBy, turnBy, outcomeBy, stateBy, SameMachine}
 
 pub turn-by : (s : State History) (j : Job History) (p : Step) → turnBy "" s j p ≡ turnOf lists tableSize s j p
@@ -39,7 +37,7 @@ module _ (K : Book) where
   unfolding outcomeBy writeActBy relabelActBy execActBy outcomeOf writeAct relabelAct execAct
   outcome-by s (StepOf i) =
       λ z. onSome (getElem? (s .jobs) i) (unchanged noSuch s)
-      (λ j. onSome (getElem? (blockOf K (j .block) .steps) (j .position)) (unchanged finished s) (λ p. turnLanded s i (turn-by s j p z)))
+      (λ j. onSome (getElem? (blockOf K (j .block) .steps) (j .position)) (unchanged noStepLeft s) (λ p. turnLanded s i (turn-by s j p z)))
   outcome-by s (WriteBy q k v n) = refl
   outcome-by s (RelabelBy q k o) = refl
   outcome-by s (NewBy q i v n) = refl

@@ -21,7 +21,7 @@ use Rattle.typing.specs.declared.Known.{Known}
 use Rattle.typing.specs.declared.Known.the-variants as N
 use Rattle.typing.specs.declared.State.{State}
 use Rattle.typing.specs.declared.Verdict.the-variants.{Accepted}
-use Rattle.typing.specs.Shapes.{View, viewOf, contentOf, countedTrust, highTrust, alikeIn, alike, fits, knownValue, declaredOk}
+use Rattle.typing.specs.Shapes.{View, viewOf, contentOf, countedTrust, isHighTrust, alikeIn, alike, fits, knownValue, declaredOk}
 use Rattle.typing.specs.Rules.{Typed, passes, stuck, breaks, fresh, holds, lowRule, highRule, stepRule}
 use Rattle.typing.specs.Rules as R
 use Rattle.typing.specs.Verdict.{verdict}
@@ -61,7 +61,7 @@ step-by B t (Write w a) =
     else R.onKnownCell (R.known (B .c) t w)
     (λ i. R.stuckUnless (isMet (countedTrust (B .c) (B .shape) i) (t .p))
     (R.breaksUnless
-    (either (not (highTrust (B .c) (B .shape) i))
+    (either (not (isHighTrust (B .c) (B .shape) i))
     (both (fits-by (B .c) (B .shape) (R.known (B .c) t a) (contentOf (B .c) (B .shape) i) z) (isMet (countedTrust (B .c) (B .shape) i) (R.used t a))))
     (passes t)))
 step-by B t (Relabel w o) = refl

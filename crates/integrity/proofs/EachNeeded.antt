@@ -2,12 +2,13 @@
 -- sentence: of a cell of trust 4, 9 or 12, or of a job.
 --     each-needed
 -- Assumes nothing.
-use Prim.Native.Nat.{ℕ, zero, suc}
+use Prim.Native.Nat.{ℕ}
 use Prim.Native.String.{String}
 use mathlib.Core.Path.{_≡_, refl, ap}
 use mathlib.Core.Bool.{Bool, true, false}
-use mathlib.Core.List.{List, [], _∷_, _++_}
+use mathlib.Core.List.{List, [], _∷_}
 use Rattle.labels.specs.Labels.{label, lower, normal, capped}
+use Rattle.book.specs.Numbers.{plainValue, cellValue, codeValue}
 use Rattle.book.specs.Control.{both, either, those, while, sweep, onSome}
 use Rattle.book.specs.Kinds.{span, limits, group}
 use Rattle.book.specs.Spans.{cutBy, offsetsIn, offsetsBy}
@@ -25,7 +26,7 @@ use Rattle.typing.specs.Rules.{breaksUnless, stuckUnless, isPlainly, fresh, kno
 use Rattle.typing.specs.Rules as R
 use Rattle.typing.specs.Verdict.{cellFault, orThen, blockFault, stepFault, orRefused, typed, verdictOf, verdict}
 use Rattle.machine.specs.declared.Event.{Event}
-use Rattle.machine.specs.declared.Event.the-variants.{StepOf, WriteBy, RelabelBy, NewBy, ExecBy, StartBy}
+use Rattle.machine.specs.declared.Event.the-variants.{WriteBy, RelabelBy, NewBy, ExecBy, StartBy}
 use Rattle.machine.specs.Control.{given, onPlain, onCell, onCode}
 use Rattle.machine.specs.Acts.{execLabel, writeAct, relabelAct, newAct, startAct, execAct}
 use Rattle.machine.specs.Steps.{sum, addStep, readStep, lowerStep, turnOf}
@@ -35,7 +36,7 @@ use Rattle.integrity.specs.Weakened.{alikeBy, fitsBy, declaredBy, stepRu
 use Rattle.integrity.specs.Loosened as L
 use Rattle.integrity.specs.Loosened.{turnBy, outcomeBy, stateBy, NeededThere}
 use Rattle.integrity.specs.EachNeeded.{EachNeeded}
-use Rattle.integrity.proofs.Books.{plain, code, cell, number, naming, coding, declare, block, name, codeOf, add, new, read, write, relabel, lowerTo, start, exec}
+use Rattle.integrity.proofs.Books.{plain, code, cell, declare, block, name, codeOf, add, new, read, write, relabel, lowerTo, start, exec}
 use Rattle.integrity.proofs.Books.{book, spoil, steps, codeBelow, codeAsLarger, namedAsTrusted, readLow, relabelled, made, madeLowered, loweredLow, held}
 use Rattle.integrity.proofs.Tested.{cellHolds, jobHolds, sentencesHold, breaks}
 
@@ -96,9 +97,9 @@ each-needed =
       shapes =
           record {
             -- Cell 0 has trust 4 and label 0.
-            declared-high = needed (book (plain ∷ cell 0 4 ∷ declare 1 0 number 5 ∷ block 12 ∷ [])) [] 7 6 refl;
+            declared-high = needed (book (plain ∷ cell 0 4 ∷ declare 1 0 plainValue 5 ∷ block 12 ∷ [])) [] 7 6 refl;
             -- Cell 0 has trust 9 and label 8 (A4).
-            declared-label = needed (book (plain ∷ cell 0 9 ∷ declare 1 8 number 5 ∷ block 12 ∷ [])) [] 7 6 refl;
+            declared-label = needed (book (plain ∷ cell 0 9 ∷ declare 1 8 plainValue 5 ∷ block 12 ∷ [])) [] 7 6 refl;
             declared-fits = needed codeBelow (steps 2 0 (steps 2 1 [])) 7 19 refl;
             code-bound = needed codeBelow (steps 2 0 (steps 2 1 [])) 7 19 refl;
             -- An outsider writes 7 into cell 0.
@@ -106,53 +107,53 @@ each-needed =
             -- Cells 3 and 4 are of names of cells of numbers; they name cell 1, of code of bound 12, and cell 2, of code of bound 3. By these
             -- names job 0 copies block 1's code from cell 2 to cell 1, as if it were a number, and runs cell 1 at 12.
             alike-first-plain =
-                needed (book (code 12 ∷ cell 0 12 ∷ code 3 ∷ cell 2 12 ∷ plain ∷ cell 4 12 ∷ cell 5 12 ∷ declare 5 12 number 5
-                ∷ declare 1 12 coding 0 ∷ declare 3 12 coding 1 ∷ declare 6 12 naming 1 ∷ declare 6 12 naming 2 ∷ block 12 ∷ name 0 4
+                needed (book (code 12 ∷ cell 0 12 ∷ code 3 ∷ cell 2 12 ∷ plain ∷ cell 4 12 ∷ cell 5 12 ∷ declare 5 12 plainValue 5
+                ∷ declare 1 12 codeValue 0 ∷ declare 3 12 codeValue 1 ∷ declare 6 12 cellValue 1 ∷ declare 6 12 cellValue 2 ∷ block 12 ∷ name 0 4
                 ∷ read 0 0 ∷ read 0 0 ∷ name 1 3 ∷ read 1 1 ∷ write 1 0 ∷ name 2 1 ∷ exec 2 ∷ spoil ∷ []))
                 (steps 8 0 (steps 2 1 [])) 7 43 refl;
             -- Cell 0 is of numbers. Cells 1 and 2 name it as a cell of code, of bound 12 and of bound 3. Job 0 writes block 1's code by the
             -- second name, and runs it by the first.
             alike-second-plain =
-                needed (book (code 12 ∷ cell 0 12 ∷ code 3 ∷ cell 2 12 ∷ plain ∷ cell 4 12 ∷ cell 1 12 ∷ cell 3 12 ∷ declare 5 12 number 5
-                ∷ declare 6 12 naming 0 ∷ declare 7 12 naming 0 ∷ block 12 ∷ name 0 2 ∷ read 0 0 ∷ codeOf 1 1 ∷ write 0 1 ∷ name 2 1
+                needed (book (code 12 ∷ cell 0 12 ∷ code 3 ∷ cell 2 12 ∷ plain ∷ cell 4 12 ∷ cell 1 12 ∷ cell 3 12 ∷ declare 5 12 plainValue 5
+                ∷ declare 6 12 cellValue 0 ∷ declare 7 12 cellValue 0 ∷ block 12 ∷ name 0 2 ∷ read 0 0 ∷ codeOf 1 1 ∷ write 0 1 ∷ name 2 1
                 ∷ read 2 2 ∷ exec 2 ∷ spoil ∷ [])) (steps 7 0 (steps 2 1 [])) 7 30 refl;
             -- Cells 4 and 5 name cell 3, of names of cells of trust 9, and cell 2, of names of cells of low trust, as cells of code of bound 0.
             -- By these names job 0 copies the name of cell 0, of low trust, from cell 2 to cell 3. By cell 3 it reads, as of trust 9, what an
             -- outsider wrote, and writes it into cell 1.
             alike-first-code =
-                needed (book (plain ∷ cell 0 0 ∷ cell 0 9 ∷ cell 1 9 ∷ cell 2 9 ∷ code 0 ∷ cell 5 9 ∷ cell 6 9 ∷ declare 1 0 number 0
-                ∷ declare 2 9 number 5 ∷ declare 3 9 naming 0 ∷ declare 4 9 naming 1 ∷ declare 7 9 naming 3 ∷ declare 7 9 naming 2
+                needed (book (plain ∷ cell 0 0 ∷ cell 0 9 ∷ cell 1 9 ∷ cell 2 9 ∷ code 0 ∷ cell 5 9 ∷ cell 6 9 ∷ declare 1 0 plainValue 0
+                ∷ declare 2 9 plainValue 5 ∷ declare 3 9 cellValue 0 ∷ declare 4 9 cellValue 1 ∷ declare 7 9 cellValue 3 ∷ declare 7 9 cellValue 2
                 ∷ block 12 ∷ name 0 5 ∷ read 0 0 ∷ read 0 0 ∷ name 1 4 ∷ read 1 1 ∷ write 1 0 ∷ name 2 3 ∷ read 2 2 ∷ read 2 2 ∷ name 3 1
                 ∷ write 3 2 ∷ [])) (WriteBy (label 3) 0 0 7 ∷ steps 11 0 []) 7 55 refl;
             -- Cell 2 is of code of bound 0. Cells 3 and 4 name it as a cell of names, of cells of low trust and of trust 9. Job 0 writes the name
             -- of cell 0 by the first, and reads it by the second.
             alike-second-code =
                 needed (book (plain ∷ cell 0 0 ∷ cell 0 9 ∷ cell 1 9 ∷ cell 2 9 ∷ code 0 ∷ cell 5 9 ∷ cell 3 9 ∷ cell 4 9
-                ∷ declare 1 0 number 0 ∷ declare 2 9 number 5 ∷ declare 6 9 coding 0 ∷ declare 7 9 naming 2 ∷ declare 8 9 naming 2
+                ∷ declare 1 0 plainValue 0 ∷ declare 2 9 plainValue 5 ∷ declare 6 9 codeValue 0 ∷ declare 7 9 cellValue 2 ∷ declare 8 9 cellValue 2
                 ∷ block 12 ∷ name 0 3 ∷ read 0 0 ∷ name 1 0 ∷ write 0 1 ∷ name 2 4 ∷ read 2 2 ∷ read 2 2 ∷ read 2 2 ∷ name 3 1 ∷ write 3 2
                 ∷ [])) (WriteBy (label 3) 0 0 7 ∷ steps 10 0 []) 7 50 refl;
             -- Cell 1 is of code of bound 12; cell 2 names it as one of bound 3. Job 0 writes block 1's code by that name, and runs cell 1 at 12.
             alike-larger-bound =
-                needed (book (code 12 ∷ cell 0 12 ∷ code 3 ∷ cell 2 12 ∷ cell 3 12 ∷ plain ∷ cell 5 12 ∷ declare 6 12 number 5
-                ∷ declare 1 12 coding 0 ∷ declare 4 12 naming 1 ∷ block 12 ∷ name 0 2 ∷ read 0 0 ∷ codeOf 1 1 ∷ write 0 1 ∷ name 2 1
+                needed (book (code 12 ∷ cell 0 12 ∷ code 3 ∷ cell 2 12 ∷ cell 3 12 ∷ plain ∷ cell 5 12 ∷ declare 6 12 plainValue 5
+                ∷ declare 1 12 codeValue 0 ∷ declare 4 12 cellValue 1 ∷ block 12 ∷ name 0 2 ∷ read 0 0 ∷ codeOf 1 1 ∷ write 0 1 ∷ name 2 1
                 ∷ exec 2 ∷ spoil ∷ [])) (steps 6 0 (steps 2 1 [])) 7 35 refl;
             alike-smaller-bound = needed codeAsLarger (steps 3 0 (steps 2 1 [])) 7 35 refl;
             -- As with the first plain, but the copied code counts as the name of a cell of low trust.
             alike-first-cell =
                 needed (book (plain ∷ cell 0 0 ∷ code 12 ∷ cell 2 12 ∷ code 3 ∷ cell 4 12 ∷ cell 1 12 ∷ cell 6 12 ∷ cell 0 12
-                ∷ declare 8 12 number 5 ∷ declare 3 12 coding 0 ∷ declare 5 12 coding 1 ∷ declare 7 12 naming 1 ∷ declare 7 12 naming 2
+                ∷ declare 8 12 plainValue 5 ∷ declare 3 12 codeValue 0 ∷ declare 5 12 codeValue 1 ∷ declare 7 12 cellValue 1 ∷ declare 7 12 cellValue 2
                 ∷ block 12 ∷ name 0 4 ∷ read 0 0 ∷ read 0 0 ∷ name 1 3 ∷ read 1 1 ∷ write 1 0 ∷ name 2 1 ∷ exec 2 ∷ spoil ∷ []))
                 (steps 8 0 (steps 2 1 [])) 7 49 refl;
             -- As with the second plain, but cell 1 is of names of cells of low trust.
             alike-second-cell =
                 needed (book (plain ∷ cell 0 0 ∷ cell 1 12 ∷ code 12 ∷ cell 3 12 ∷ cell 4 12 ∷ code 3 ∷ cell 6 12 ∷ cell 7 12 ∷ cell 0 12
-                ∷ declare 9 12 number 5 ∷ declare 2 12 naming 2 ∷ declare 1 0 number 0 ∷ declare 8 12 naming 1 ∷ declare 5 12 naming 1
+                ∷ declare 9 12 plainValue 5 ∷ declare 2 12 cellValue 2 ∷ declare 1 0 plainValue 0 ∷ declare 8 12 cellValue 1 ∷ declare 5 12 cellValue 1
                 ∷ block 12 ∷ name 0 3 ∷ read 0 0 ∷ codeOf 1 1 ∷ write 0 1 ∷ name 2 4 ∷ read 2 2 ∷ exec 2 ∷ spoil ∷ []))
                 (steps 7 0 (steps 2 1 [])) 7 52 refl;
             -- Cell 0 has trust 9; cell 2 names it as one of low trust. Job 0 reads what an outsider wrote into cell 1, and writes it by that
             -- name.
             alike-higher-trust =
-                needed (book (plain ∷ cell 0 9 ∷ cell 0 0 ∷ cell 2 9 ∷ declare 1 9 number 5 ∷ declare 2 0 number 0 ∷ declare 3 9 naming 0
+                needed (book (plain ∷ cell 0 9 ∷ cell 0 0 ∷ cell 2 9 ∷ declare 1 9 plainValue 5 ∷ declare 2 0 plainValue 0 ∷ declare 3 9 cellValue 0
                 ∷ block 12 ∷ name 0 1 ∷ read 0 0 ∷ name 1 2 ∷ read 1 1 ∷ write 1 0 ∷ []))
                 (WriteBy (label 3) 1 0 7 ∷ steps 5 0 []) 7 28 refl;
             alike-lower-trust = needed (namedAsTrusted 9) (WriteBy (label 3) 0 0 7 ∷ steps 5 0 []) 7 28 refl;
@@ -161,7 +162,7 @@ each-needed =
             -- As with the smaller bound, but by a name of a name: cell 3 names cell 2, which names cell 1.
             alike-depth =
                 needed (book (code 12 ∷ cell 0 12 ∷ cell 1 12 ∷ cell 2 12 ∷ code 3 ∷ cell 4 12 ∷ cell 5 12 ∷ plain ∷ cell 7 12
-                ∷ declare 8 12 number 5 ∷ declare 5 12 coding 1 ∷ declare 6 12 naming 1 ∷ declare 3 12 naming 2 ∷ block 12 ∷ name 0 3
+                ∷ declare 8 12 plainValue 5 ∷ declare 5 12 codeValue 1 ∷ declare 6 12 cellValue 1 ∷ declare 3 12 cellValue 2 ∷ block 12 ∷ name 0 3
                 ∷ read 0 0 ∷ read 0 0 ∷ exec 0 ∷ spoil ∷ [])) (steps 4 0 (steps 2 1 [])) 7 49 refl;
           };
       steps =
@@ -173,15 +174,15 @@ each-needed =
             new-low-high = needed (made 4 3) (steps 1 0 []) 8 8 refl;
             -- An outsider writes 7 into cell 1. Job 0 reads it, adds a number of its own, and writes the sum into cell 0, of trust 9.
             add-first =
-                needed (book (plain ∷ cell 0 9 ∷ cell 0 0 ∷ declare 1 9 number 5 ∷ declare 2 0 number 0 ∷ block 12 ∷ name 0 1 ∷ read 0 0
+                needed (book (plain ∷ cell 0 9 ∷ cell 0 0 ∷ declare 1 9 plainValue 5 ∷ declare 2 0 plainValue 0 ∷ block 12 ∷ name 0 1 ∷ read 0 0
                 ∷ add 0 0 1 ∷ name 1 0 ∷ write 1 0 ∷ [])) (WriteBy (label 3) 1 0 7 ∷ steps 5 0 []) 8 40 refl;
             -- The same with the operands changed.
             add-second =
-                needed (book (plain ∷ cell 0 9 ∷ cell 0 0 ∷ declare 1 9 number 5 ∷ declare 2 0 number 0 ∷ block 12 ∷ name 0 1 ∷ read 0 0
+                needed (book (plain ∷ cell 0 9 ∷ cell 0 0 ∷ declare 1 9 plainValue 5 ∷ declare 2 0 plainValue 0 ∷ block 12 ∷ name 0 1 ∷ read 0 0
                 ∷ add 0 1 0 ∷ name 1 0 ∷ write 1 0 ∷ [])) (WriteBy (label 3) 1 0 7 ∷ steps 5 0 []) 8 40 refl;
             -- Job 0, at 12, lowers to 12, and gives cell 0, of trust 9, the label 0.
             lower-p =
-                needed (book (plain ∷ cell 0 9 ∷ declare 1 9 number 5 ∷ block 12 ∷ lowerTo 12 ∷ name 0 0 ∷ relabel 0 0 ∷ []))
+                needed (book (plain ∷ cell 0 9 ∷ declare 1 9 plainValue 5 ∷ block 12 ∷ lowerTo 12 ∷ name 0 0 ∷ relabel 0 0 ∷ []))
                 (steps 3 0 []) 8 21 refl;
             -- An outsider starts it at 3.
             lower-c = needed loweredLow (StartBy (label 3) 0 ∷ steps 2 1 []) 8 10 refl;
@@ -194,18 +195,18 @@ each-needed =
             new-lowered = needed (made 9 12) (StartBy (label 3) 0 ∷ steps 1 1 []) 8 8 refl;
             -- Job 0 makes a cell of code of bound 12 that holds block 1, of bound 3, and runs it at 12.
             new-fits =
-                needed (book (code 12 ∷ cell 0 12 ∷ plain ∷ cell 2 12 ∷ declare 3 12 number 5 ∷ block 12 ∷ lowerTo 12 ∷ codeOf 0 1
+                needed (book (code 12 ∷ cell 0 12 ∷ plain ∷ cell 2 12 ∷ declare 3 12 plainValue 5 ∷ block 12 ∷ lowerTo 12 ∷ codeOf 0 1
                 ∷ new 1 1 0 ∷ exec 1 ∷ spoil ∷ [])) (steps 4 0 (steps 2 1 [])) 8 26 refl;
             -- A11.
             new-p = needed madeLowered (steps 2 0 []) 8 10 refl;
             -- Job 1 lowers to 5 and writes cell 0, of trust 5. Job 0 reads it and makes a cell of trust 9 with it.
             new-effect =
-                needed (book (plain ∷ cell 0 9 ∷ cell 0 5 ∷ declare 2 5 number 0 ∷ block 12 ∷ start 1 ∷ name 0 0 ∷ read 0 0 ∷ lowerTo 12
+                needed (book (plain ∷ cell 0 9 ∷ cell 0 5 ∷ declare 2 5 plainValue 0 ∷ block 12 ∷ start 1 ∷ name 0 0 ∷ read 0 0 ∷ lowerTo 12
                 ∷ new 1 1 0 ∷ block 12 ∷ lowerTo 5 ∷ name 0 0 ∷ write 0 1 ∷ [])) (steps 1 0 (steps 3 1 (steps 4 0 []))) 8 29 refl;
             -- Cell 2, of low trust, is of names of cells of trust 9 and names cell 0, of low trust. Job 0 reads by that name what an outsider
             -- wrote into cell 0, and writes it into cell 1, of trust 9.
             read-effect =
-                needed (book (plain ∷ cell 0 0 ∷ cell 0 9 ∷ cell 2 0 ∷ declare 1 0 number 0 ∷ declare 2 9 number 5 ∷ declare 3 0 naming 0
+                needed (book (plain ∷ cell 0 0 ∷ cell 0 9 ∷ cell 2 0 ∷ declare 1 0 plainValue 0 ∷ declare 2 9 plainValue 5 ∷ declare 3 0 cellValue 0
                 ∷ block 12 ∷ name 0 2 ∷ read 0 0 ∷ read 0 0 ∷ name 1 1 ∷ write 1 0 ∷ []))
                 (WriteBy (label 3) 0 0 7 ∷ steps 5 0 []) 8 50 refl;
             -- An outsider writes 7 into cell 1.
@@ -213,31 +214,31 @@ each-needed =
             -- Cell 1, of low trust, is of names of cells of low trust; an outsider has it name cell 0, of trust 9. Job 0 reads the name, and
             -- writes it where it points.
             write-w =
-                needed (book (plain ∷ cell 0 9 ∷ cell 0 0 ∷ cell 2 0 ∷ declare 1 9 number 5 ∷ declare 3 0 naming 0 ∷ block 12 ∷ name 0 1
+                needed (book (plain ∷ cell 0 9 ∷ cell 0 0 ∷ cell 2 0 ∷ declare 1 9 plainValue 5 ∷ declare 3 0 cellValue 0 ∷ block 12 ∷ name 0 1
                 ∷ read 0 0 ∷ write 0 0 ∷ [])) (WriteBy (label 3) 1 1 0 ∷ steps 3 0 []) 8 36 refl;
             -- Job 0, at 12, writes cell 0, of trust 12, and then gives it the label 0.
             write-p =
-                needed (book (plain ∷ cell 0 12 ∷ declare 1 12 number 5 ∷ block 12 ∷ name 0 0 ∷ write 0 1 ∷ relabel 0 0 ∷ []))
+                needed (book (plain ∷ cell 0 12 ∷ declare 1 12 plainValue 5 ∷ block 12 ∷ name 0 0 ∷ write 0 1 ∷ relabel 0 0 ∷ []))
                 (steps 3 0 []) 8 22 refl;
             write-high = needed (readLow 4) (WriteBy (label 3) 1 0 7 ∷ steps 4 0 []) 8 36 refl;
             -- Job 0 writes the code of block 1, of bound 3, into cell 1, of code of bound 12, and runs it at 12.
             write-fits =
-                needed (book (code 12 ∷ cell 0 12 ∷ plain ∷ cell 2 12 ∷ declare 3 12 number 5 ∷ declare 1 12 coding 0 ∷ block 12
+                needed (book (code 12 ∷ cell 0 12 ∷ plain ∷ cell 2 12 ∷ declare 3 12 plainValue 5 ∷ declare 1 12 codeValue 0 ∷ block 12
                 ∷ codeOf 0 1 ∷ name 1 1 ∷ write 1 0 ∷ exec 1 ∷ spoil ∷ [])) (steps 4 0 (steps 2 1 [])) 8 35 refl;
             -- Job 1 lowers to 5 and writes cell 1, of trust 5. Job 0 reads it, and writes it into cell 0, of trust 9.
             write-effect =
-                needed (book (plain ∷ cell 0 9 ∷ cell 0 5 ∷ declare 1 9 number 5 ∷ declare 2 5 number 0 ∷ block 12 ∷ start 1 ∷ name 0 1
+                needed (book (plain ∷ cell 0 9 ∷ cell 0 5 ∷ declare 1 9 plainValue 5 ∷ declare 2 5 plainValue 0 ∷ block 12 ∷ start 1 ∷ name 0 1
                 ∷ read 0 0 ∷ name 1 0 ∷ write 1 0 ∷ block 12 ∷ lowerTo 5 ∷ name 0 1 ∷ write 0 1 ∷ []))
                 (steps 1 0 (steps 3 1 (steps 4 0 []))) 8 38 refl;
             -- Cell 1, of low trust, is of names of cells of low trust and names cell 0, of trust 9. Job 0 reads the name, and gives what it names
             -- the label 0.
             relabel-w =
-                needed (book (plain ∷ cell 0 9 ∷ cell 0 0 ∷ cell 2 0 ∷ declare 1 9 number 5 ∷ declare 3 0 naming 0 ∷ block 12 ∷ name 0 1
+                needed (book (plain ∷ cell 0 9 ∷ cell 0 0 ∷ cell 2 0 ∷ declare 1 9 plainValue 5 ∷ declare 3 0 cellValue 0 ∷ block 12 ∷ name 0 1
                 ∷ read 0 0 ∷ relabel 0 0 ∷ [])) (steps 3 0 []) 8 36 refl;
             relabel-s = needed (relabelled 12 12 0) (steps 2 0 []) 8 19 refl;
             -- Job 0, at 12, gives cell 0, of trust 9, the label 12 and then 0.
             relabel-o =
-                needed (book (plain ∷ cell 0 9 ∷ declare 1 9 number 5 ∷ block 12 ∷ name 0 0 ∷ relabel 0 12 ∷ relabel 0 0 ∷ []))
+                needed (book (plain ∷ cell 0 9 ∷ declare 1 9 plainValue 5 ∷ block 12 ∷ name 0 0 ∷ relabel 0 12 ∷ relabel 0 0 ∷ []))
                 (steps 3 0 []) 8 22 refl;
             -- A6.
             relabel-label = needed (relabelled 9 12 8) (steps 2 0 []) 8 19 refl;
@@ -245,21 +246,21 @@ each-needed =
             -- Cell 2, of low trust, is of names of cells of trust 12 and names cell 1, of low trust, which holds block 1, of bound 3. Job 0 reads
             -- the name and runs it, at 12.
             exec-w =
-                needed (book (code 12 ∷ cell 0 12 ∷ cell 0 0 ∷ cell 1 0 ∷ plain ∷ cell 4 12 ∷ declare 5 12 number 5
-                ∷ declare 2 12 coding 1 ∷ declare 3 0 naming 1 ∷ block 12 ∷ name 0 2 ∷ read 0 0 ∷ exec 0 ∷ spoil ∷ []))
+                needed (book (code 12 ∷ cell 0 12 ∷ cell 0 0 ∷ cell 1 0 ∷ plain ∷ cell 4 12 ∷ declare 5 12 plainValue 5
+                ∷ declare 2 12 codeValue 1 ∷ declare 3 0 cellValue 1 ∷ block 12 ∷ name 0 2 ∷ read 0 0 ∷ exec 0 ∷ spoil ∷ []))
                 (steps 3 0 (steps 2 1 [])) 8 49 refl;
             -- Cell 1 is of code of bound 3. Job 0 runs it at 12.
             exec-bound =
-                needed (book (code 3 ∷ cell 0 12 ∷ plain ∷ cell 2 12 ∷ declare 3 12 number 5 ∷ declare 1 12 coding 1 ∷ block 12 ∷ name 0 1
+                needed (book (code 3 ∷ cell 0 12 ∷ plain ∷ cell 2 12 ∷ declare 3 12 plainValue 5 ∷ declare 1 12 codeValue 1 ∷ block 12 ∷ name 0 1
                 ∷ exec 0 ∷ spoil ∷ [])) (steps 2 0 (steps 2 1 [])) 8 32 refl;
             -- An outsider writes block 1's code into cell 0. Job 0, at 12, copies it into cell 1, of low trust and label 12, and runs that: a job
             -- at 12 whose history has 3.
             exec-trust =
-                needed (book (code 12 ∷ cell 0 0 ∷ declare 1 0 coding 1 ∷ declare 1 12 coding 1 ∷ block 12 ∷ name 0 0 ∷ name 1 1
+                needed (book (code 12 ∷ cell 0 0 ∷ declare 1 0 codeValue 1 ∷ declare 1 12 codeValue 1 ∷ block 12 ∷ name 0 0 ∷ name 1 1
                 ∷ read 2 0 ∷ write 1 2 ∷ exec 1 ∷ block 12 ∷ [])) (WriteBy (label 3) 0 2 1 ∷ steps 5 0 []) 8 37 refl;
             -- Job 0, at 12, starts block 1, of bound 3.
             start-bound =
-                needed (book (plain ∷ cell 0 12 ∷ declare 1 12 number 5 ∷ block 12 ∷ start 1 ∷ spoil ∷ []))
+                needed (book (plain ∷ cell 0 12 ∷ declare 1 12 plainValue 5 ∷ block 12 ∷ start 1 ∷ spoil ∷ []))
                 (steps 1 0 (steps 2 1 [])) 8 16 refl;
           };
       machine =
@@ -267,7 +268,7 @@ each-needed =
             -- An outsider at 4 writes block 1's code into cell 1, of code of bound 4. Job 0 runs it at 4: block 1, of bound 3, gives cell 0, of
             -- trust 4, the label 0.
             write-q =
-                needed-there (book (code 4 ∷ cell 0 4 ∷ plain ∷ cell 2 4 ∷ declare 3 4 number 5 ∷ declare 1 4 coding 0 ∷ block 4
+                needed-there (book (code 4 ∷ cell 0 4 ∷ plain ∷ cell 2 4 ∷ declare 3 4 plainValue 5 ∷ declare 1 4 codeValue 0 ∷ block 4
                 ∷ name 0 1 ∷ exec 0 ∷ spoil ∷ [])) (WriteBy (label 4) 1 2 1 ∷ steps 2 0 (steps 2 1 [])) 4 2 2 4 refl refl;
             -- An outsider at 4 gives cell 0 the label 0.
             relabel-q = needed-there (held 4) (RelabelBy (label 4) 0 (label 0) ∷ []) 2 1 1 0 refl refl;
@@ -275,7 +276,7 @@ each-needed =
             new-trust = needed-there (book (plain ∷ cell 0 4 ∷ block 12 ∷ [])) (NewBy (label 3) 1 0 7 ∷ []) 2 0 1 0 refl refl;
             -- An outsider at 4 runs cell 1, of low trust and label 4: block 0, of bound 3, gives cell 0, of trust 4, the label 0.
             exec-q =
-                needed-there (book (code 3 ∷ cell 0 0 ∷ plain ∷ cell 2 4 ∷ declare 3 4 number 5 ∷ declare 1 4 coding 0 ∷ spoil ∷ []))
+                needed-there (book (code 3 ∷ cell 0 0 ∷ plain ∷ cell 2 4 ∷ declare 3 4 plainValue 5 ∷ declare 1 4 codeValue 0 ∷ spoil ∷ []))
                 (ExecBy (label 4) 1 ∷ steps 2 1 []) 4 2 1 2 refl refl;
             -- An outsider at 4 starts block 0, of bound 3: it gives cell 0, of trust 4, the label 0.
             start-q = needed-there (relabelled 4 3 0) (StartBy (label 4) 0 ∷ steps 2 1 []) 2 1 1 2 refl refl;
@@ -285,7 +286,7 @@ each-needed =
             relabel-old = needed-there (held 9) (RelabelBy (label 3) 0 (label 0) ∷ []) 2 1 1 0 refl refl;
             -- Job 0, at 12, gives cell 1 the label 15, where the rules hold it stuck, and then cell 0, of trust 9, the label 0.
             relabel-new =
-                needed-there (book (plain ∷ cell 0 9 ∷ declare 1 9 number 5 ∷ declare 1 9 number 5 ∷ block 12 ∷ name 0 1 ∷ relabel 0 15
+                needed-there (book (plain ∷ cell 0 9 ∷ declare 1 9 plainValue 5 ∷ declare 1 9 plainValue 5 ∷ block 12 ∷ name 0 1 ∷ relabel 0 15
                 ∷ name 0 0 ∷ relabel 0 0 ∷ [])) (steps 4 0 []) 2 2 1 4 refl refl;
             -- Job 0 makes a cell of trust 9.
             new-label = needed-there (book (plain ∷ cell 0 9 ∷ block 12 ∷ lowerTo 12 ∷ new 0 1 0 ∷ [])) (steps 2 0 []) 2 0 1 2 refl refl;
@@ -297,7 +298,7 @@ each-needed =
             lower-label = needed-there (book (block 12 ∷ lowerTo 12 ∷ [])) (StartBy (label 3) 0 ∷ steps 1 1 []) 0 0 1 1 refl refl;
             -- An outsider at 3 runs cell 0, of label 12: a job at 12 whose history has 3.
             exec-lower =
-                needed-there (book (code 12 ∷ cell 0 0 ∷ declare 1 12 coding 0 ∷ block 12 ∷ []))
+                needed-there (book (code 12 ∷ cell 0 0 ∷ declare 1 12 codeValue 0 ∷ block 12 ∷ []))
                 (ExecBy (label 3) 0 ∷ []) 2 1 1 0 refl refl;
           };
     }

@@ -18,7 +18,7 @@ use Rattle.book.specs.Book.{Book, Block}
 use Rattle.book.proofs.Tests.{clash, both-left, both-right, either-left, either-right}
 use Rattle.typing.specs.declared.Known.the-variants as N
 use Rattle.typing.specs.declared.State as T
-use Rattle.typing.specs.Shapes.{isCellShape, contentOf, countedTrust, highTrust, knownOf}
+use Rattle.typing.specs.Shapes.{isCellShape, contentOf, countedTrust, isHighTrust, knownOf}
 use Rattle.typing.specs.Rules.{known, isLow, holds, used}
 use Rattle.typing.specs.Rules as R
 use Rattle.machine.specs.Histories.{sources}
@@ -32,7 +32,8 @@ use Rattle.integrity.proofs.Entries.{All2, all2-map}
 use Rattle.integrity.proofs.Numbers.{facts, act-source, read-source, read-above, joined-three, add-source, exec-bound, exec-own, exec-code, held-label, lower-number}
 use Rattle.integrity.proofs.Invariant.{shapeOf, treeOf, Has, Good, CellOk, RegisterOk, Match, JobOk, Invariant}
 use Rattle.integrity.proofs.Effects.{keep-ok, create-ok, launch-ok, created}
-use Rattle.integrity.proofs.Walks.{StepOk, fine, never-stuck, need-ok, free-ok, either-ok, some-ok, known-cell-ok, known-code-ok, given-ok, entry-ok, plain-ok, cell-ok, given-effect, entry-effect, code-effect}
+use Rattle.integrity.proofs.Walks.{StepOk, fine, never-stuck, need-ok, free-ok, either-ok, some-ok, known-cell-ok, known-code-ok, given-ok, entry-ok, plain-ok}
+use Rattle.integrity.proofs.Walks.{cell-ok, given-effect, entry-effect, code-effect}
 use Rattle.integrity.proofs.Knowledge.{bound-is, named-has, fits-has, has-known, known-code, known-cellular}
 use Rattle.integrity.proofs.LowActs.{BlocksPass, fresh-ok, low-good, one-shape}
 use Rattle.integrity.proofs.Outcomes.{register-ok, fits-known, gives-ok, low-ok, own-ok, moves-ok, good-at, put-back}
@@ -60,7 +61,11 @@ module _ (K : Book) (size : ℕ) (s : State Label) (v : Invariant K s) (ok : Gro
   add-ok r a b =
       need-ok K (λ p. plain-ok K (λ x ex. plain-ok K (λ y ey.
       gives-ok K s j t m r N.Plain _ _ _ keep keep-ok
-      (record { cellular = λ i q. cc; fits = λ z. tt; source = add-source (K .c .0) (j .label .0) _ _ (t .p) _ _ (j .history) (register-ok K s j t m a .source) (register-ok K s j t m b .source) (m .source) }))))
+      (record {
+        cellular = λ i q. cc;
+        fits = λ z. tt;
+        source = add-source (K .c .0) (j .label .0) _ _ (t .p) _ _ (j .history) (register-ok K s j t m a .source) (register-ok K s j t m b .source) (m .source);
+      }))))
 
   -- what may be stored in a cell of shape i
   module _ (a i : ℕ) (h : holds (K .c) (shapeOf K) t a i ≡ true) where
@@ -77,11 +82,11 @@ module _ (K : Book) (size : ℕ) (s : State Label) (v : Invariant K s) (ok : Gro
     holds-source p q = act-source (K .c .0) _ (j .label .0) _ (t .p) _ _ p holds-used q (register-ok K s j t m a .source) (m .source)
 
   new-cell : (i a : ℕ) → isCellShape (K .c) (shapeOf K) i ≡ true → K .c .0 < t .p .0
-      → either (not (highTrust (K .c) (shapeOf K) i)) (both (t .lowered) (holds (K .c) (shapeOf K) t a i)) ≡ true
+      → either (not (isHighTrust (K .c) (shapeOf K) i)) (both (t .lowered) (holds (K .c) (shapeOf K) t a i)) ≡ true
       → CellOk K (s .cells) (record { shape = i; label = j .label; content = acted sources (j .history) (register sources j a) })
-  new-cell i a ic hi e = one-shape K (s .cells) _ _ _ (tree-cell (K .c) (shapeOf K) ok i ic) (go (highTrust (K .c) (shapeOf K) i) refl)
+  new-cell i a ic hi e = one-shape K (s .cells) _ _ _ (tree-cell (K .c) (shapeOf K) ok i ic) (go (isHighTrust (K .c) (shapeOf K) i) refl)
     where
-      go : (b : Bool) → highTrust (K .c) (shapeOf K) i ≡ b
+      go : (b : Bool) → isHighTrust (K .c) (shapeOf K) i ≡ b
           → Good K (s .cells) (record { shape = i; label = j .label; content = acted sources (j .history) (register sources j a) })
           (treeOf K (contentOf (K .c) (shapeOf K) i)) (countedTrust (K .c) (shapeOf K) i .0)
       go false p = low-good K (s .cells) _ _ _ (omega facts)
@@ -151,12 +156,12 @@ module _ (K : Book) (size : ℕ) (s : State Label) (v : Invariant K s) (ok : Gro
   unfolding writeAct
   write-ok w a hi =
       known-cell-ok K (λ i ei. cell-ok K (λ k ek. entry-effect K (λ c ec. given-effect K (λ el. free-ok K
-      (λ fr. need-ok K (λ e. put-back K s j t m ok v w i k c ei ek ec (stored i k c ei ek ec (leb-true _ _ el) e (highTrust (K .c) (shapeOf K) i) refl)))
+      (λ fr. need-ok K (λ e. put-back K s j t m ok v w i k c ei ek ec (stored i k c ei ek ec (leb-true _ _ el) e (isHighTrust (K .c) (shapeOf K) i) refl)))
       (λ fr. never-stuck K (blocks i k c ei ek ec (leb-true _ _ el) (leb-false _ _ fr)))))))
     where
       stored : (i k : ℕ) (c : Cell Label) → known (K .c) t w ≡ N.CellOf i → register sources j w .value ≡ CellName k → getElem? (s .cells) k ≡ some c
-          → c .label .0 ≤ j .label .0 → either (not (highTrust (K .c) (shapeOf K) i)) (holds (K .c) (shapeOf K) t a i) ≡ true
-          → (b : Bool) → highTrust (K .c) (shapeOf K) i ≡ b
+          → c .label .0 ≤ j .label .0 → either (not (isHighTrust (K .c) (shapeOf K) i)) (holds (K .c) (shapeOf K) t a i) ≡ true
+          → (b : Bool) → isHighTrust (K .c) (shapeOf K) i ≡ b
           → Good K (s .cells) (record { shape = c .shape; label = c .label; content = acted sources (j .history) (register sources j a) })
           (treeOf K (contentOf (K .c) (shapeOf K) i)) (countedTrust (K .c) (shapeOf K) i .0)
       stored i k c ei ek ec el e false p = low-good K (s .cells) _ _ _ (omega facts)
@@ -201,7 +206,9 @@ module _ (K : Book) (size : ℕ) (s : State Label) (v : Invariant K s) (ok : Gro
       blocks i k c ei ek ec el eo true p false q f = let y = m .label in omega facts
       blocks i k c ei ek ec el eo true p true q f = clash (both-true _ _ p q) f
 
-  pub start-ok : (b : ℕ) → StepOk K (s .cells) j (R.startRule t (getElem? (map (λ (b : Block). b .bound) (K .blocks)) b)) (record { job = moved sources j; effect = startAct sources size s (j .label) (j .history) b })
+  pub start-ok : (b : ℕ)
+      → StepOk K (s .cells) j (R.startRule t (getElem? (map (λ (b : Block). b .bound) (K .blocks)) b))
+      (record { job = moved sources j; effect = startAct sources size s (j .label) (j .history) b })
   unfolding startAct
   start-ok b =
       some-ok K (λ l e. need-ok K (λ p. given-effect K (λ f.

@@ -5,22 +5,18 @@ use mathlib.Core.Path.{_≡_, refl}
 use mathlib.Core.Bool.{true, false}
 use mathlib.Core.Option.{Option, some}
 use mathlib.Core.List.{List, [], _∷_, _++_, List·Memᴰ·head, List·Memᴰ·tail}
-use Prim.Native.Nat.{ℕ}
-use native.Mathlib.Omega.{arith}
 use borrow.Author.Tests.{lt-ltb, ltb-true, lt-leb}
+use Rattle.labels.proofs.Impossible.{impossible}
 use Rattle.labels.specs.declared.Label.{Label}
 use Rattle.labels.specs.Labels.{lower, reaches, isAbove}
-use Rattle.book.specs.Book.{Book}
 use Rattle.book.specs.Control.{both, onSome}
 use Rattle.machine.specs.Control.{given, onCode}
-use Rattle.machine.specs.declared.Event.{Event}
 use Rattle.machine.specs.declared.Event.the-variants.{StepOf, WriteBy, RelabelBy, NewBy, ExecBy, StartBy}
-use Rattle.machine.specs.Histories.{History, hands, lists, append}
-use Rattle.machine.specs.States.{State}
+use Rattle.machine.specs.Histories.{hands, lists, append}
 use Rattle.machine.specs.Acts.{freshJob, execLabel, execAct}
-use Rattle.machine.specs.Events.{noSuch, unchanged, outcomeOf}
+use Rattle.machine.specs.Events.{outcomeOf}
 use Rattle.integrity.specs.Integrity.{_isIn_}
-use Rattle.integrity.specs.Laws.{ExecHistory, claimed, AboveC}
+use Rattle.integrity.specs.Laws.{ExecHistory, AboveC}
 
 -- a member of a part
 in-front : {A : Type 0} (x : A) (xs ys : List A) → x isIn xs → x isIn (xs ++ ys)
@@ -53,7 +49,7 @@ same-label p q e = cc
 
 pub above-c : AboveC
 unfolding outcomeOf given both
-above-c size K s (StepOf i) q e h = let z : _≡_ {A = ℕ} 0 1 = cc in absurd (omega arith)
+above-c size K s (StepOf i) q e h = impossible cc
 above-c size K s (WriteBy p k v n) q e h = simp (not-below p (K .c) (rw (same-label p q e) h))
 above-c size K s (RelabelBy p k o) q e h = simp (not-below p (K .c) (rw (same-label p q e) h))
 above-c size K s (NewBy p i v n) q e h = simp (not-below p (K .c) (rw (same-label p q e) h))

@@ -1,6 +1,6 @@
 -- Acts of an actor at or below C, a job or an outsider: they keep the invariant whatever the book's rules say.
---     BlocksPass, fresh-ok                     a job at the start of its block
---     low-writing, .., low-executing           the acts
+--     BlocksPass, fresh-ok       a job at the start of its block
+--     low-write, .., low-exec    the acts
 -- Assumes nothing.
 use mathlib.Core.Path.{_≡_, refl, sym, ap, _∙_}
 use mathlib.Core.Bool.{true}
@@ -67,29 +67,29 @@ module _ (K : Book) (s : State Label) (v : Invariant K s) (l h : Label) (lo : l 
           let g = all-at (CellOk K (s .cells)) (s .cells) k c (v .cells) e t S (ap (treeOf K) (sym q) ∙ z) in
           low-good K (s .cells) d t S (omega (arith, g .label))
 
-  pub low-writing : (k : ℕ) (w : Traced Label) → EffectOk K (s .cells) (writeAct sources s l h k w)
+  pub low-write : (k : ℕ) (w : Traced Label) → EffectOk K (s .cells) (writeAct sources s l h k w)
   unfolding writeAct
-  low-writing k w = entry-act K (λ c ec. given-act K (λ el. low-store k c _ ec (leb-true _ _ el) refl))
+  low-write k w = entry-act K (λ c ec. given-act K (λ el. low-store k c _ ec (leb-true _ _ el) refl))
 
-  pub low-relabelling : (k : ℕ) (o : Label) → EffectOk K (s .cells) (relabelAct sources s l h k o)
+  pub low-relabel : (k : ℕ) (o : Label) → EffectOk K (s .cells) (relabelAct sources s l h k o)
   unfolding relabelAct
-  low-relabelling k o =
+  low-relabel k o =
       entry-act K (λ c ec. given-act K (λ e. low-store k c _ ec (leb-true _ _ (both-left _ _ e)) refl))
 
 module _ (K : Book) (size : ℕ) (s : State Label) (v : Invariant K s) (l h : Label) (lo : l .0 ≤ K .c .0) where
-  pub low-making : (i : ℕ) (w : Traced Label) → countedTrust (K .c) (shapeOf K) i .0 ≤ K .c .0 → EffectOk K (s .cells) (newAct sources size s l h i w)
+  pub low-new : (i : ℕ) (w : Traced Label) → countedTrust (K .c) (shapeOf K) i .0 ≤ K .c .0 → EffectOk K (s .cells) (newAct sources size s l h i w)
   unfolding newAct
-  low-making i w p = given-act K (λ e. low-create K (s .cells) _ p)
+  low-new i w p = given-act K (λ e. low-create K (s .cells) _ p)
 
   module _ (pass : BlocksPass K) where
     low-job : (b : ℕ) (m h : Label) → m .0 ≤ K .c .0 → JobOk K (s .cells) (freshJob sources b m h)
     low-job b m h p = fresh-ok K (s .cells) pass b m h (omega arith) (omega arith)
 
-    pub low-starting : (b : ℕ) → EffectOk K (s .cells) (startAct sources size s l h b)
+    pub low-start : (b : ℕ) → EffectOk K (s .cells) (startAct sources size s l h b)
     unfolding startAct
-    low-starting b = given-act K (λ e. launch-ok (low-job b l h lo))
+    low-start b = given-act K (λ e. launch-ok (low-job b l h lo))
 
-    pub low-executing : (k : ℕ) → EffectOk K (s .cells) (execAct sources size s l h k)
+    pub low-exec : (k : ℕ) → EffectOk K (s .cells) (execAct sources size s l h k)
     unfolding execAct
-    low-executing k =
+    low-exec k =
         entry-act K (λ c ec. code-act K (λ b eb. given-act K (λ e. launch-ok (low-job b _ _ (exec-low (K .c .0) l (c .label) lo)))))

@@ -10,14 +10,14 @@ use Rattle.book.specs.declared.Step.{Step}
 use Rattle.book.specs.Control.{if_then_else_}
 use Rattle.book.specs.Records.{byteAt, numberAt}
 use Rattle.book.specs.Book.{Book, declaredAt, stepAt, stepsFrom, blockAt, cellsOf, blocksOf, parse}
-use Rattle.book.proofs.Every.{All, all-in, map-from, mapped}
-use Rattle.book.proofs.Parsed.{Sound, sound}
+use Rattle.book.proofs.Every.{All, all-each, all-in, map-from, mapped}
+use Rattle.book.proofs.Parsed.{SoundBook, sound}
 use Rattle.machine.specs.Histories.{lists, History}
 use Rattle.machine.specs.States.{Traced}
 use Rattle.machine.specs.Steps.{sum}
 use Rattle.machine.specs.Events.{tableSize, launchLabel}
 use Rattle.machine.specs.Records.{numberOf, valueRecord, cellRecord, jobRecord, ValueRecord}
-use Rattle.machine.proofs.Named.{each, stepNumber, Numbers, BookHas, EventHas, TracedNamed, CellNamed, JobNamed, number-is, number-named, state-after-has}
+use Rattle.machine.proofs.Named.{stepNumber, Numbers, BookHas, EventHas, TracedNamed, CellNamed, JobNamed, number-is, number-named, state-after-has}
 use Rattle.events.specs.Bytes.{eventAt, eventsFrom, eventsIn, offsetsFrom}
 use Rattle.interpreter.specs.Run.{finalState}
 use Rattle.integrity.specs.Integrity.{_isIn_}
@@ -76,7 +76,7 @@ module _ (s : List ℕ) (b : Bytes s) where
 
   -- all that a list of offsets says
   all-said : {B : Type 0} (Q : B → Type 0) (f : ℕ → B) → ((o : ℕ) → Q (f o)) → (os : List ℕ) → All Q (map f os)
-  all-said Q f g os = mapped (λ o. Q (f o)) Q f (λ o h. h) os (each _ g os)
+  all-said Q f g os = mapped (λ o. Q (f o)) Q f (λ o h. h) os (all-each _ g os)
 
   book-fits : BookHas Fits (parse s)
   unfolding parse blockAt
@@ -95,7 +95,7 @@ made : Numbers Fits tableSize
 unfolding sum
 made = record { none = omega arith; sums = λ x y. omega arith; cells = λ k h. omega (arith, h) }
 
-value-fits : (K : Book) → Sound K → (v : Traced History) → TracedNamed Fits K v → Fits (numberOf (v .value))
+value-fits : (K : Book) → SoundBook K → (v : Traced History) → TracedNamed Fits K v → Fits (numberOf (v .value))
 value-fits K ok v n = number-named (λ b h. omega (arith, h, ok .few)) (n .value)
 
 pub numbers-fit : NumbersFit

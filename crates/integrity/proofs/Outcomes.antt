@@ -1,5 +1,5 @@
 -- What a step gives a job that matches a state of the typing.
---     register-ok, fits-known, cell-known      a register
+--     register-ok, fits-known, known-cell      a register
 --     gives-ok, .., moves-ok                   the job after its step
 --     tree-at, good-at, put-back               the cell that a register names
 -- Assumes nothing.

@@ -29,7 +29,7 @@ use Rattle.integrity.proofs.Numbers.{low-normal}
 use Rattle.integrity.proofs.Invariant.{passesAll, shapeOf, JobOk, Invariant, job-kept}
 use Rattle.integrity.proofs.Effects.{After, grows, landed-ok, landed-outside}
 use Rattle.integrity.proofs.Walks.{StepOk, broken, waits, fine}
-use Rattle.integrity.proofs.LowActs.{BlocksPass, low-writing, low-relabelling, low-making, low-starting, low-executing}
+use Rattle.integrity.proofs.LowActs.{BlocksPass, low-write, low-relabel, low-new, low-start, low-exec}
 use Rattle.integrity.proofs.Steps.{step-ok}
 
 pub record Keeps (K : Book) (o : Outcome Label) : Type 0 where
@@ -76,18 +76,18 @@ module _ (K : Book) (size : ℕ) (ok : Grounded (shapeOf K)) (pass : BlocksPass 
       there-ok (record { kept = v }) (λ j ej. there-ok (record { kept = v }) (λ p ep. record { kept = step-event s v i j ej p ep }))
   outcome-ok s v (WriteBy q k x n) =
       such-ok (record { kept = v })
-      (λ g. record { kept = landed-outside K s _ v (low-writing K s v q q (leb-true _ _ (both-left _ _ g)) k (brought sources q x n)) })
+      (λ g. record { kept = landed-outside K s _ v (low-write K s v q q (leb-true _ _ (both-left _ _ g)) k (brought sources q x n)) })
   outcome-ok s v (RelabelBy q k o) =
-      such-ok (record { kept = v }) (λ g. record { kept = landed-outside K s _ v (low-relabelling K s v q q (leb-true _ _ (both-left _ _ g)) k o) })
+      such-ok (record { kept = v }) (λ g. record { kept = landed-outside K s _ v (low-relabel K s v q q (leb-true _ _ (both-left _ _ g)) k o) })
   outcome-ok s v (NewBy q i x n) =
       such-ok (record { kept = v })
       (λ g.
       let l = low-normal (K .c) _ (not-true _ (both-right _ _ (both-left _ _ (both-right _ _ g)))) in
-      record { kept = landed-outside K s _ v (low-making K size s v q q (leb-true _ _ (both-left _ _ g)) i (brought sources q x n) l) })
+      record { kept = landed-outside K s _ v (low-new K size s v q q (leb-true _ _ (both-left _ _ g)) i (brought sources q x n) l) })
   outcome-ok s v (ExecBy q k) =
-      such-ok (record { kept = v }) (λ g. record { kept = landed-outside K s _ v (low-executing K size s v q q (leb-true _ _ (both-left _ _ g)) pass k) })
+      such-ok (record { kept = v }) (λ g. record { kept = landed-outside K s _ v (low-exec K size s v q q (leb-true _ _ (both-left _ _ g)) pass k) })
   outcome-ok s v (StartBy q b) =
-      such-ok (record { kept = v }) (λ g. record { kept = landed-outside K s _ v (low-starting K size s v q q (leb-true _ _ (both-left _ _ g)) pass b) })
+      such-ok (record { kept = v }) (λ g. record { kept = landed-outside K s _ v (low-start K size s v q q (leb-true _ _ (both-left _ _ g)) pass b) })
 
   pub state-after-ok : (es : List Event) (s : State Label) → Invariant K s → Invariant K (stateAfter sources size K s es)
   unfolding stateAfter

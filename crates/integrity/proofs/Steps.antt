@@ -12,7 +12,7 @@ use Rattle.book.specs.declared.Step.{Step}
 use Rattle.book.specs.declared.Step.the-variants.{Put, Name, Code, Add, New, Read, Write, Relabel, Lower, Start, Exec}
 use Rattle.book.specs.Book.{Book}
 use Rattle.typing.specs.declared.State as T
-use Rattle.typing.specs.Shapes.{viewOf, highTrust, countedTrust}
+use Rattle.typing.specs.Shapes.{viewOf, isHighTrust, countedTrust}
 use Rattle.typing.specs.Rules.{passes, isLow, lowRule, highRule, stepRule}
 use Rattle.machine.specs.Histories.{sources}
 use Rattle.machine.specs.States.{Job, State}
@@ -22,7 +22,7 @@ use Rattle.integrity.proofs.Trees.{Grounded}
 use Rattle.integrity.proofs.Invariant.{shapeOf, Match, Invariant}
 use Rattle.integrity.proofs.Effects.{EffectOk, keep-ok}
 use Rattle.integrity.proofs.Walks.{StepOk, need-ok, either-ok, entry-ok, plain-ok, cell-ok}
-use Rattle.integrity.proofs.LowActs.{BlocksPass, low-writing, low-relabelling, low-making, low-starting, low-executing}
+use Rattle.integrity.proofs.LowActs.{BlocksPass, low-write, low-relabel, low-new, low-start, low-exec}
 use Rattle.integrity.proofs.Outcomes.{low-ok, moves-ok}
 use Rattle.integrity.proofs.HighSteps.{put-ok, name-ok, code-ok, add-ok, new-ok, read-ok, lower-ok, write-ok, relabel-ok, start-ok, exec-ok}
 
@@ -32,7 +32,7 @@ module _ (K : Book) (size : ℕ) (s : State Label) (v : Invariant K s) (ok : Gro
   low-label : t .p .0 ≤ K .c .0 → j .label .0 ≤ K .c .0
   low-label lo = let h = m .label in omega arith
 
-  low-trust : (i : ℕ) → not (highTrust (K .c) (shapeOf K) i) ≡ true → countedTrust (K .c) (shapeOf K) i .0 ≤ K .c .0
+  low-trust : (i : ℕ) → not (isHighTrust (K .c) (shapeOf K) i) ≡ true → countedTrust (K .c) (shapeOf K) i .0 ≤ K .c .0
   low-trust i e = ltb-false _ _ (not-true _ e)
 
   -- an act through a register
@@ -46,13 +46,13 @@ module _ (K : Book) (size : ℕ) (s : State Label) (v : Invariant K s) (ok : Gro
   low-step lo (Code r b) = low-ok K s j t m r _ _ keep keep-ok
   low-step lo (Add r a b) = plain-ok K (λ x ex. plain-ok K (λ y ey. low-ok K s j t m r _ _ keep keep-ok))
   low-step lo (New r i a) =
-      need-ok K (λ e. low-ok K s j t m r _ _ _ (low-making K size s v (j .label) (j .history) (low-label lo) i (register sources j a) (low-trust i e)))
+      need-ok K (λ e. low-ok K s j t m r _ _ _ (low-new K size s v (j .label) (j .history) (low-label lo) i (register sources j a) (low-trust i e)))
   low-step lo (Read r w) = cell-ok K (λ k ek. entry-ok K (λ c ec. low-ok K s j t m r _ _ keep keep-ok))
-  low-step lo (Write w a) = through-ok w _ (λ k. low-writing K s v (j .label) (j .history) (low-label lo) k (register sources j a))
-  low-step lo (Relabel w o) = through-ok w _ (λ k. low-relabelling K s v (j .label) (j .history) (low-label lo) k o)
+  low-step lo (Write w a) = through-ok w _ (λ k. low-write K s v (j .label) (j .history) (low-label lo) k (register sources j a))
+  low-step lo (Relabel w o) = through-ok w _ (λ k. low-relabel K s v (j .label) (j .history) (low-label lo) k o)
   low-step lo (Lower q) = lower-ok K size s v ok pass j t m q
-  low-step lo (Start b) = moves-ok K s j t m _ (low-starting K size s v (j .label) (j .history) (low-label lo) pass b)
-  low-step lo (Exec w) = through-ok w _ (λ k. low-executing K size s v (j .label) (j .history) (low-label lo) pass k)
+  low-step lo (Start b) = moves-ok K s j t m _ (low-start K size s v (j .label) (j .history) (low-label lo) pass b)
+  low-step lo (Exec w) = through-ok w _ (λ k. low-exec K size s v (j .label) (j .history) (low-label lo) pass k)
 
   high-step : K .c .0 < t .p .0 → (p : Step) → StepOk K (s .cells) j (highRule (viewOf K) t p) (turnOf sources size s j p)
   unfolding highRule turnOf viewOf

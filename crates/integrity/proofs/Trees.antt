@@ -127,7 +127,8 @@ module _ (c : Label) (shape : ℕ → Shape) where
     alike-in zero i j p e = absurd (omega arith)
     alike-in (suc n) i j p e =
         rw (tree-node i, tree-node j)
-        (level (isCodeShape c shape i) (isCellShape c shape i) (isCodeShape c shape j) (isCellShape c shape j) (boundOf c shape i .0) (boundOf c shape j .0) (countedTrust c shape i .0) (countedTrust c shape j .0) (tree (contentOf c shape i)) (tree (contentOf c shape j)) _
+        (level (isCodeShape c shape i) (isCellShape c shape i) (isCodeShape c shape j) (isCellShape c shape j) (boundOf c shape i .0) (boundOf c shape j .0)
+        (countedTrust c shape i .0) (countedTrust c shape j .0) (tree (contentOf c shape i)) (tree (contentOf c shape j)) _
         (apart (shape i .kind)) (apart (shape j .kind))
         (λ l r. let d = ok .falls i (eqb-true _ _ l) in alike-in n (contentOf c shape i) (contentOf c shape j) (omega arith) r) e)
 

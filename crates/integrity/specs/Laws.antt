@@ -5,7 +5,7 @@
 use mathlib.Core.Path.{_≡_}
 use mathlib.Core.Bool.{true}
 use mathlib.Core.Option.{Option, none, some}
-use mathlib.Core.List.{List, [], _∷_, _++_}
+use mathlib.Core.List.{[], _∷_, _++_}
 use Prim.Native.Nat.{ℕ, _<_}
 use lib.ListN.{length, getElem?}
 use Rattle.labels.specs.declared.Label.{Label}
@@ -16,7 +16,7 @@ use Rattle.machine.specs.declared.Event.{Event}
 use Rattle.machine.specs.declared.Event.the-variants.{StepOf, WriteBy, RelabelBy, NewBy, ExecBy, StartBy}
 use Rattle.machine.specs.Histories.{History, hands, lists}
 use Rattle.machine.specs.States.{Cell, Job, State}
-use Rattle.machine.specs.Acts.{Effect, launch, execAct}
+use Rattle.machine.specs.Acts.{launch, execAct}
 use Rattle.machine.specs.Events.{noSuch, unchanged, outcomeOf}
 use Rattle.integrity.specs.Integrity.{_isIn_}
 

@@ -27,7 +27,7 @@ use Rattle.machine.specs.Histories.{History, append, lists}
 use Rattle.machine.specs.States.{Traced, Job, State}
 use Rattle.machine.specs.Acts.{Effect, blocked, keep, store, launch, blockedUnless, isFree, execLabel, acted, freshJob, newAct, startAct}
 use Rattle.machine.specs.Steps.{Turn, register, turn, stay, moved, gets, through, turnOf}
-use Rattle.machine.specs.Events.{Outcome, tableSize, launchLabel, finished, noSuch, blockOf, statedTrust, isOutsider, isLabel, blockExists, cellExists, valueExists, unchanged}
+use Rattle.machine.specs.Events.{Outcome, tableSize, launchLabel, noStepLeft, noSuch, blockOf, statedTrust, isOutsider, isLabel, blockExists, cellExists, valueExists, unchanged}
 use Rattle.machine.specs.Events.{landed, turnLanded, ifSuch, brought, freshState, outcomeOf, stateAfter}
 use Rattle.integrity.specs.Integrity.{Sentences}
 use Rattle.integrity.specs.Weakened.{instead, asked, raised}
@@ -114,7 +114,7 @@ module _ (weakened : String) where
     unfoldable pub outcomeBy : State History → Event → Outcome History
     outcomeBy s (StepOf i) =
         onSome (getElem? (s .jobs) i) (unchanged noSuch s)
-        (λ j. onSome (getElem? (blockOf K (j .block) .steps) (j .position)) (unchanged finished s) (λ p. turnLanded s i (turnBy s j p)))
+        (λ j. onSome (getElem? (blockOf K (j .block) .steps) (j .position)) (unchanged noStepLeft s) (λ p. turnLanded s i (turnBy s j p)))
     outcomeBy s (WriteBy q k v n) =
         ifSuch s (both (outsider "81: Q above C" q) (both (cellExists s k) (valueExists K s v n)))
         (landed s s (writeActBy s q (lists .one q) k (brought lists q v n)))

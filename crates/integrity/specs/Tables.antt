@@ -15,26 +15,26 @@ use Rattle.machine.specs.Histories.{History}
 use Rattle.machine.specs.States.{State}
 use Rattle.machine.specs.Events.{blockOf}
 use Rattle.machine.specs.Records.{ValueRecord, CellRecord, JobRecord, cellRecords, jobRecords}
-use Rattle.tables.specs.Bytes.{cellSize, jobSize}
+use Rattle.tables.specs.Bytes.{cellLength, jobLength}
 use Rattle.interpreter.specs.Run.{Run, ran, finalState}
 use Rattle.integrity.specs.Integrity.{_isIn_}
 
 -- "A cell record holds shape, trust, label and value", 9 bytes; its last is the value's source. Of cell i:
 abbrev pub trustIn : Run → ℕ → ℕ
-trustIn r i = byteAt (r .cells) (cellSize * i + 1)
+trustIn r i = byteAt (r .cells) (cellLength * i + 1)
 
 abbrev pub labelIn : Run → ℕ → ℕ
-labelIn r i = byteAt (r .cells) (cellSize * i + 2)
+labelIn r i = byteAt (r .cells) (cellLength * i + 2)
 
 abbrev pub sourceIn : Run → ℕ → ℕ
-sourceIn r i = byteAt (r .cells) (cellSize * i + 8)
+sourceIn r i = byteAt (r .cells) (cellLength * i + 8)
 
 -- "a job record block, position .., label, registers and its own source", 52 bytes; the source stands before the registers. Of job i:
 abbrev pub jobLabelIn : Run → ℕ → ℕ
-jobLabelIn r i = byteAt (r .jobs) (jobSize * i + 2)
+jobLabelIn r i = byteAt (r .jobs) (jobLength * i + 2)
 
 abbrev pub jobSourceIn : Run → ℕ → ℕ
-jobSourceIn r i = byteAt (r .jobs) (jobSize * i + 3)
+jobSourceIn r i = byteAt (r .jobs) (jobLength * i + 3)
 
 -- "Where a cell's trust is above C, its label and its value's source are at least that trust. Where a job's label is above C, its source
 -- is at least that label." "All cells and jobs in use are meant, finished jobs too."

@@ -27,8 +27,9 @@ use Rattle.typing.specs.declared.Known.{Known}
 use Rattle.typing.specs.declared.Known.the-variants as N
 use Rattle.typing.specs.declared.State.{State}
 use Rattle.typing.specs.declared.Verdict.the-variants.{Accepted, Refused}
-use Rattle.typing.specs.Shapes.{View, viewOf, isPlainShape, isCodeShape, isCellShape, boundOf, contentOf, countedTrust, highTrust, knownOf, knownValue}
-use Rattle.typing.specs.Rules.{Typed, passes, stuck, breaks, breaksUnless, stuckUnless, onKnownCell, onKnownCode, registerType, gives, givesLow, fresh, used, isLow, known, lowersTo, addable, lowRule, highRule, stepRule}
+use Rattle.typing.specs.Shapes.{View, viewOf, isPlainShape, isCodeShape, isCellShape, boundOf, contentOf, countedTrust, isHighTrust, knownOf, knownValue}
+use Rattle.typing.specs.Rules.{Typed, passes, stuck, breaks, breaksUnless, stuckUnless, onKnownCell, onKnownCode, registerType, gives, givesLow, fresh, used, isLow}
+use Rattle.typing.specs.Rules.{known, lowersTo, addable, lowRule, highRule, stepRule}
 use Rattle.typing.specs.Verdict.{verdict}
 use Rattle.machine.specs.declared.Event.{Event}
 use Rattle.machine.specs.Histories.{lists}
@@ -52,7 +53,7 @@ module _ (weakened : String) where
   module _ (c : Label) (shape : ℕ → Shape) where
     -- "trust above C"; where this place is weakened, above C + 1
     abbrev pub high : String → ℕ → Bool
-    high place i = highTrust (raised place c) shape i
+    high place i = isHighTrust (raised place c) shape i
 
     -- "a trust .. at or below C counts as 0"; where this place is weakened, at or below C + 1
     abbrev pub trustBy : String → ℕ → ℕ

@@ -1,6 +1,6 @@
 -- Laws of an outsider's act that is such, for the code, where its effect is known.
---     Acting        what is known there
---     the laws      what holds behind the event
+--     Acting, SomeAct                       what is known there; the same as one record
+--     acting-blocked, .., acting-launch     what holds behind the event
 -- Assumes nothing.
 use mathlib.Core.Path.{_≡_, sym, ap, _∙_}
 use mathlib.Core.Bool.{Bool, true}

@@ -8,6 +8,7 @@ use mathlib.Core.List.{List, [], _∷_, _++_, map}
 use Prim.Native.Nat.{ℕ, zero, suc, _<_, _≤_}
 use native.Mathlib.Omega.{arith}
 use lib.ListN.{length, take, drop, getD, set, getElem?}
+use Rattle.labels.proofs.Impossible.{impossible}
 
 module _ {A B : Type 0} (f : A → B) where
   pub front-get : (l : List A) (n i : ℕ) (d : A) → i < n → n ≤ length l → getElem? (map f (take n l)) i ≡ some (f (getD l i d))
@@ -46,19 +47,19 @@ other-stays (y ∷ ys) (suc i) (suc k) x d n = other-stays ys i k x d (λ e. n (
 
 module _ {A : Type 0} where
   pub left-some : (l : List A) (p : ℕ) (x : A) (r : List A) → drop p l ≡ x ∷ r → getElem? l p ≡ some x
-  left-some [] zero x r e = let z : _≡_ {A = ℕ} 0 1 = cc in absurd (omega arith)
-  left-some [] (suc p) x r e = let z : _≡_ {A = ℕ} 0 1 = cc in absurd (omega arith)
+  left-some [] zero x r e = impossible cc
+  left-some [] (suc p) x r e = impossible cc
   left-some (y ∷ ys) zero x r e = ap some cc
   left-some (y ∷ ys) (suc p) x r e = left-some ys p x r e
 
   pub left-none : (l : List A) (p : ℕ) → drop p l ≡ [] → getElem? l p ≡ none
   left-none [] zero e = refl
   left-none [] (suc p) e = refl
-  left-none (y ∷ ys) zero e = let z : _≡_ {A = ℕ} 0 1 = cc in absurd (omega arith)
+  left-none (y ∷ ys) zero e = impossible cc
   left-none (y ∷ ys) (suc p) e = left-none ys p e
 
   pub left-more : (l : List A) (p : ℕ) (x : A) (r : List A) → drop p l ≡ x ∷ r → drop (suc p) l ≡ r
-  left-more [] zero x r e = let z : _≡_ {A = ℕ} 0 1 = cc in absurd (omega arith)
-  left-more [] (suc p) x r e = let z : _≡_ {A = ℕ} 0 1 = cc in absurd (omega arith)
+  left-more [] zero x r e = impossible cc
+  left-more [] (suc p) x r e = impossible cc
   left-more (y ∷ ys) zero x r e = cc
   left-more (y ∷ ys) (suc p) x r e = left-more ys p x r e

@@ -16,7 +16,7 @@ use Rattle.machine.specs.Histories.{sources}
 use Rattle.machine.specs.States.{State}
 use Rattle.machine.specs.Events.{tableSize, Outcome, outcomeOf, stateAfter, answers}
 use Rattle.events.specs.Bytes.{nextEvent, eventAt, eventsFrom, eventsIn}
-use Rattle.events.proofs.Walks.{Whole, walk, events-end}
+use Rattle.events.proofs.Walks.{EventsWhole, walk, events-end}
 use Rattle.acts.specs.declared.StoredCell.{StoredCell}
 use Rattle.acts.specs.declared.StoredJob.{StoredJob}
 use Rattle.interpreter.specs.Loop.{Holds, opening}
@@ -44,7 +44,7 @@ pub record Going (b list before answers-now : List ℕ) (cells : List StoredCell
   pub said-long : length said ≡ at
   pub all : said ++ answers sources tableSize (parse b) state (eventsFrom list o) ≡ answers sources tableSize (parse b) (opening b) (eventsIn list)
   pub kept : answers-now ≡ said ++ drop at before
-  pub whole : Whole list o
+  pub whole : EventsWhole list o
   pub left : at + length (eventsFrom list o) ≡ length (eventsIn list)
 
 -- the answers are the machine's, then what stood there; the arrays hold the machine's state
@@ -52,7 +52,7 @@ pub record Played (b list before after : List ℕ) (cells : List StoredCell) (n 
   pub answered : after ≡ answers sources tableSize (parse b) (opening b) (eventsIn list) ++ drop (length (eventsIn list)) before
   pub holds : Holds b (stateAfter sources tableSize (parse b) (opening b) (eventsIn list)) cells n jobs m
 
-pub going-start : (b list before : List ℕ) (cells : List StoredCell) (n : ℕ) (jobs : List StoredJob) (m : ℕ) → Whole list 0 → Holds b (opening b) cells n jobs m
+pub going-start : (b list before : List ℕ) (cells : List StoredCell) (n : ℕ) (jobs : List StoredJob) (m : ℕ) → EventsWhole list 0 → Holds b (opening b) cells n jobs m
     → Going b list before before cells n jobs m 0 0
 going-start b list before cells n jobs m w h =
     record { state = opening b; holds = h; rest = refl; said = []; said-long = refl; all = refl; kept = refl; whole = w; left = omega arith }

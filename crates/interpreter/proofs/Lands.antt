@@ -12,6 +12,7 @@ use native.Mathlib.Omega.{arith}
 use lib.Dec.{ltb}
 use lib.ListN.{length, drop, getD, set, getElem?}
 use borrow.Author.Tests.{lt-ltb, ltb-true, ltb-false}
+use Rattle.labels.proofs.Impossible.{impossible}
 use Rattle.labels.specs.declared.Label.{Label}
 use Rattle.book.specs.declared.Step.{Step}
 use Rattle.book.specs.declared.StepAt.the-variants.{NoStep, StepThere}
@@ -29,7 +30,7 @@ use Rattle.machine.specs.Histories.{sources}
 use Rattle.machine.specs.States.{State}
 use Rattle.machine.specs.States as States
 use Rattle.machine.specs.Acts.{freshJob}
-use Rattle.machine.specs.Events.{tableSize, finished, noSuch, blockOf, Outcome, unchanged, landed, turnLanded, outcomeOf}
+use Rattle.machine.specs.Events.{tableSize, noStepLeft, noSuch, blockOf, Outcome, unchanged, landed, turnLanded, outcomeOf}
 use Rattle.acts.specs.declared.StoredCell.{StoredCell}
 use Rattle.acts.specs.declared.StoredJob.{StoredJob}
 use Rattle.acts.specs.declared.Act.{Act}
@@ -74,7 +75,7 @@ found-inside b o p n e = go (ltb o (length b)) refl
   where
     go : (t : Bool) → ltb o (length b) ≡ t → o < length b
     go true q = ltb-true _ _ q
-    go false q = let x : NoStep ≡ StepThere p n = simp q at e in let z : _≡_ {A = ℕ} 0 1 = cc in absurd (omega arith)
+    go false q = let x : NoStep ≡ StepThere p n = simp q at e in impossible cc
 
 -- the steps that are left of a job's block begin where its offset says
 module _ (b : List ℕ) (j : StoredJob) (here : Placed b j) where
@@ -153,7 +154,7 @@ module _ {b : List ℕ} {s : State Label} {cells : List StoredCell} {n : ℕ} {j
     placed : Placed b (getD jobs i d)
     placed = h .placed i d r
 
-    pub step-none : stepFound b (getD jobs i d .at) ≡ NoStep → outcomeOf sources tableSize (parse b) s (StepOf i) ≡ unchanged finished s
+    pub step-none : stepFound b (getD jobs i d .at) ≡ NoStep → outcomeOf sources tableSize (parse b) s (StepOf i) ≡ unchanged noStepLeft s
     unfolding outcomeOf onSome
     step-none e = simp (job-there i d r, no-step b (getD jobs i d) placed e)
 

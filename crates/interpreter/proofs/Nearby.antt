@@ -12,6 +12,7 @@ use native.Mathlib.Omega.{arith}
 use lib.Dec.{ltb}
 use lib.ListN.{length, getElem?, length-replicate}
 use borrow.Author.Tests.{ltb-true, ltb-false}
+use Rattle.labels.proofs.Impossible.{impossible}
 use Rattle.labels.specs.declared.Label.{Label}
 use Rattle.labels.specs.Labels.{label}
 use Rattle.book.specs.declared.Value.{Value}
@@ -136,7 +137,7 @@ module _ (s : State Label) (y : Near) (cells-are : length (s .cells) ≡ y .cell
   outside-nearby (StartBy q b) t = start-nearby q q b
 
 there-inside : {A : Type 0} (l : List A) (k : ℕ) (x : A) → getElem? l k ≡ some x → k < length l
-there-inside [] k x e = let z : _≡_ {A = ℕ} 0 1 = cc in absurd (omega arith)
+there-inside [] k x e = impossible cc
 there-inside (y ∷ ys) zero x e = omega arith
 there-inside (y ∷ ys) (suc k) x e = let h = there-inside ys k x e in omega arith
 

@@ -1,6 +1,6 @@
 -- Laws of a step of a job, for the code, where the step stands and its cell is looked up.
---     Stepping      what is known there
---     the laws      what each function of the step asks for, and what holds behind the event
+--     Stepping, SomeStep                what is known there; the same as one record
+--     step-stands, .., step-launch      what each function of the step asks for, and what holds behind the event
 -- Assumes nothing.
 use mathlib.Core.Path.{_≡_, refl, sym, ap, _∙_}
 use mathlib.Core.Bool.{not}

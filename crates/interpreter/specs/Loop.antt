@@ -17,9 +17,9 @@ use Rattle.book.specs.Outline.{shapeIn, startAt}
 use Rattle.book.specs.Asked.{Whole}
 use Rattle.machine.specs.States.{State}
 use Rattle.machine.specs.Histories.{sources}
-use Rattle.machine.specs.Events.{launchLabel, blockOf, freshState}
+use Rattle.machine.specs.Events.{tableSize, launchLabel, blockOf, freshState}
 use Rattle.events.specs.Bytes.{eventsIn, unplayable}
-use Rattle.tables.specs.Bytes.{cellTableSize, jobTableSize}
+use Rattle.tables.specs.Bytes.{cellTableLength, jobTableLength}
 use Rattle.acts.specs.declared.StoredCell.{StoredCell}
 use Rattle.acts.specs.declared.StoredJob.{StoredJob}
 use Rattle.acts.specs.Views.{cellOf, jobOf}
@@ -34,11 +34,11 @@ pub record Placed (b : List ℕ) (j : StoredJob) : Type 0 where
 -- n cells and m jobs at the front of the arrays are those of the state s
 pub record Holds (b : List ℕ) (s : State Label) (cells : List StoredCell) (n : ℕ) (jobs : List StoredJob) (m : ℕ) : Type 0 where
   pub cells-are : map cellOf (take n cells) ≡ s .cells
-  pub cells-long : length cells ≡ 64
-  pub cells-fit : n ≤ 64
+  pub cells-long : length cells ≡ tableSize
+  pub cells-fit : n ≤ tableSize
   pub jobs-are : map jobOf (take m jobs) ≡ s .jobs
-  pub jobs-long : length jobs ≡ 64
-  pub jobs-fit : m ≤ 64
+  pub jobs-long : length jobs ≡ tableSize
+  pub jobs-fit : m ≤ tableSize
   pub some-job : 0 < m
   pub placed : (i : ℕ) (d : StoredJob) → i < m → Placed b (getD jobs i d)
 
@@ -50,8 +50,8 @@ opening b = freshState sources (parse b) (launchLabel (parse b))
 pub record Lent (list cells jobs answers : List ℕ) : Type 0 where
   pub playable : unplayable list ≡ Passed
   pub room : length (eventsIn list) ≤ length answers
-  pub cells-sized : length cells ≡ cellTableSize
-  pub jobs-sized : length jobs ≡ jobTableSize
+  pub cells-sized : length cells ≡ cellTableLength
+  pub jobs-sized : length jobs ≡ jobTableLength
 
 -- a readable book, the parts of its outline that the loop is lent, and what is lent to the run
 pub record Ready (b : List ℕ) (c : Label) (shapes offsets starts : List ℕ) (bound : Label) (list cells jobs answers : List ℕ) : Type 0 where

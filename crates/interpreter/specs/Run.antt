@@ -17,7 +17,7 @@ use Rattle.machine.specs.States.{State}
 use Rattle.machine.specs.Events.{tableSize, launchLabel, freshState, stateAfter, answers}
 use Rattle.machine.specs.Records.{cellRecords, jobRecords}
 use Rattle.events.specs.Bytes.{eventsIn, unplayable}
-use Rattle.tables.specs.Bytes.{cellTableSize, jobTableSize, cellTable, jobTable}
+use Rattle.tables.specs.Bytes.{cellTableLength, jobTableLength, cellTable, jobTable}
 use Rattle.interpreter.specs.declared.RunResult.{RunResult}
 
 -- "a stage covers the whole book before the next begins"
@@ -27,7 +27,7 @@ orNext (Refused n o) r = Refused n o
 
 -- 10: "The cell or job table has not exactly 64 entries."
 unfoldable pub untabled : ℕ → ℕ → Refusal
-untabled cells jobs = if both (eqb cells cellTableSize) (eqb jobs jobTableSize) then Passed else Refused 10 0
+untabled cells jobs = if both (eqb cells cellTableLength) (eqb jobs jobTableLength) then Passed else Refused 10 0
 
 -- 11: "The answer buffer has fewer bytes than the list has events."
 unfoldable pub unanswered : ℕ → ℕ → Refusal

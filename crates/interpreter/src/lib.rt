@@ -34,7 +34,8 @@ pub fn play(
     answers: &mut [u8],
 ) -> RunResult
     requires { ⌜ Ready (now book) c (now shapes) (now offsets) (now starts) bound (now list) (now cells) (now jobs) (now answers) ⌝ }
-    ensures { λ r. ⌜ runBy r (now (cells .exit)) (now (jobs .exit)) (now (answers .exit)) ≡ ranOf Passed (now (book .entry)) (now (list .entry)) (now (cells .entry)) (now (jobs .entry)) (now (answers .entry)) ⌝ }
+    ensures { λ r. ⌜ runBy r (now (cells .exit)) (now (jobs .exit)) (now (answers .exit))
+        ≡ ranOf Passed (now (book .entry)) (now (list .entry)) (now (cells .entry)) (now (jobs .entry)) (now (answers .entry)) ⌝ }
     ensures { λ r. ⌜ (r .cells ≤ 64) × (r .jobs ≤ 64) ⌝ }
 {
     let mut held = tables::open_cells(book, offsets);

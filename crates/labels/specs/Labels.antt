@@ -18,7 +18,7 @@ label n = record { 0 = n }
 abbrev pub trust : ℕ → Trust
 trust n = record { 0 = n }
 
--- "Labels are 0 to 15; higher is more trusted."
+-- "Labels are 0 to 15, higher is more trusted."
 abbrev pub topLabel : Label
 topLabel = label 15
 

@@ -17,6 +17,7 @@ use native.Mathlib.Omega.{arith}
 use lib.Dec.{eqb}
 use lib.ListN.{length, length-set, getElem?}
 use borrow.Author.Tests.{ltb-true}
+use Rattle.labels.proofs.Impossible.{impossible}
 use Rattle.labels.specs.declared.Label.{Label}
 use Rattle.book.specs.declared.Value.{Value}
 use Rattle.book.specs.declared.Value.the-variants.{Plain, CellName, CodeName}
@@ -26,8 +27,8 @@ use Rattle.book.specs.declared.Step.the-variants.{Put, Name, Code, Add, New, Re
 use Rattle.book.specs.Book.{Book, valueOf}
 use Rattle.book.specs.Refusals.{valueNamed, cellNamed, stepNamed, hasCellShape}
 use Rattle.book.proofs.Tests.{both-right}
-use Rattle.book.proofs.Every.{All, all-set, all-push, all-at, all-get, all-replicate, all-both, mapped}
-use Rattle.book.proofs.Parsed.{SoundBlock, Sound}
+use Rattle.book.proofs.Every.{All, all-each, all-set, all-push, all-at, all-get, all-replicate, all-both, mapped}
+use Rattle.book.proofs.Parsed.{SoundBlock, SoundBook}
 use Rattle.machine.specs.declared.Event.{Event}
 use Rattle.machine.specs.declared.Event.the-variants.{StepOf, WriteBy, RelabelBy, NewBy, ExecBy, StartBy}
 use Rattle.machine.specs.Histories.{Histories}
@@ -59,11 +60,6 @@ eventNumber (RelabelBy l k o) = 0
 eventNumber (NewBy l i v n) = n
 eventNumber (ExecBy l k) = 0
 eventNumber (StartBy l b) = 0
-
--- a property that every member has
-pub each : {A : Type 0} (P : A → Type 0) → ((a : A) → P a) → (l : List A) → All P l
-each P f [] = tt
-each P f (x ∷ xs) = (f x, each P f xs)
 
 -- a property of numbers, in tables of this size: of those that the machine makes
 pub record Numbers (Q : ℕ → Type 0) (size : ℕ) : Type 0 where
@@ -115,7 +111,7 @@ number-is k n = go (eqb k 0) refl (eqb k 1) refl
 
 -- the position of a step that stands
 at-inside : {A : Type 0} (l : List A) (i : ℕ) (a : A) → getElem? l i ≡ some a → i < length l
-at-inside [] i a e = let z : _≡_ {A = ℕ} 0 1 = cc in absurd (omega arith)
+at-inside [] i a e = impossible cc
 at-inside (x ∷ xs) zero a e = omega arith
 at-inside (x ∷ xs) (suc i) a e = let h = at-inside xs i a e in omega arith
 
@@ -251,7 +247,7 @@ module _ (Q : ℕ → Type 0) (A : Histories) (K : Book) (size : ℕ) (N : Numbe
     turn-named f cells (Exec w) e h = through-named w _ (executing-named s q (j .label) (j .history))
 
   -- the events
-  module _ (ok : Sound K) (has : BookHas Q K) where
+  module _ (ok : SoundBook K) (has : BookHas Q K) where
     -- a step of a block; one that does not exist has none
     step-ok : (b i : ℕ) (p : Step) → getElem? (blockOf K b .steps) i ≡ some p
         → stepNamed (hasCellShape K) (length (K .cells)) (length (K .blocks)) p ≡ true
@@ -310,17 +306,17 @@ module _ (Q : ℕ → Type 0) (A : Histories) (K : Book) (size : ℕ) (N : Numbe
 abbrev pub Any : ℕ → Type 0
 Any n = Unit {0}
 
-pub state-after-named : (A : Histories) (K : Book) (size : ℕ) → Sound K → (l : Label) (es : List Event) → StateNamed Any K (stateAfter A size K (freshState A K l) es)
+pub state-after-named : (A : Histories) (K : Book) (size : ℕ) → SoundBook K → (l : Label) (es : List Event) → StateNamed Any K (stateAfter A size K (freshState A K l) es)
 state-after-named A K size ok l es =
     state-after-has Any A K size (record { none = tt; sums = λ x y. tt; cells = λ k h. tt }) ok
-    (record { cells = each _ (λ d. tt) (K .cells); blocks = each _ (λ b. each _ (λ p. tt) (b .steps)) (K .blocks) }) l es (each _ (λ e. tt) es)
+    (record { cells = all-each _ (λ d. tt) (K .cells); blocks = all-each _ (λ b. all-each _ (λ p. tt) (b .steps)) (K .blocks) }) l es (all-each _ (λ e. tt) es)
 
 -- "64 blocks or 64 steps in a block"
 pub record Few {H : Type 0} (j : Job H) : Type 0 where
   pub block : j .block < 64
   pub position : j .position ≤ 64
 
-pub job-few : (K : Book) → Sound K → {Q : ℕ → Type 0} {H : Type 0} (j : Job H) → JobNamed Q K j → Few j
+pub job-few : (K : Book) → SoundBook K → {Q : ℕ → Type 0} {H : Type 0} (j : Job H) → JobNamed Q K j → Few j
 job-few K ok j n =
     let b = all-get (SoundBlock K) (K .blocks) (j .block) noBlock (ok .blocks) (record { few = omega arith; named = tt }) in
     record { block = omega (arith, n .block, ok .few); position = omega (arith, n .position, b .few) }

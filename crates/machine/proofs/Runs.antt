@@ -16,7 +16,8 @@ use Rattle.machine.specs.Events.{landed, turnLanded, outcomeOf, stateAft
 use Rattle.machine.specs.Samples.{SampleRuns, HistoryRun}
 
 pub sample-runs : SampleRuns
-unfolding lower both either those while span limits group numberAt cutBy offsetsIn offsetsBy groupOf stepsFrom shapeAt valueOf declaredAt stepAt blockAt parse valueNamed onSome given onPlain onCell onCode execLabel writeAct relabelAct newAct startAct execAct sum addStep readStep lowerStep turnOf landed turnLanded outcomeOf stateAfter answers
+unfolding lower both either those while span limits group numberAt cutBy offsetsIn offsetsBy groupOf stepsFrom shapeAt valueOf declaredAt stepAt blockAt parse valueNamed
+    onSome given onPlain onCell onCode execLabel writeAct relabelAct newAct startAct execAct sum addStep readStep lowerStep turnOf landed turnLanded outcomeOf stateAfter answers
 sample-runs =
     record {
       high-answers = refl;
@@ -28,5 +29,6 @@ sample-runs =
     }
 
 pub history-run : HistoryRun
-unfolding lower both either those while span limits group numberAt cutBy offsetsIn offsetsBy groupOf stepsFrom shapeAt valueOf declaredAt stepAt blockAt parse valueNamed onSome given onPlain onCell onCode execLabel writeAct relabelAct newAct startAct execAct sum addStep readStep lowerStep turnOf landed turnLanded outcomeOf stateAfter answers
+unfolding lower both either those while span limits group numberAt cutBy offsetsIn offsetsBy groupOf stepsFrom shapeAt valueOf declaredAt stepAt blockAt parse valueNamed
+    onSome given onPlain onCell onCode execLabel writeAct relabelAct newAct startAct execAct sum addStep readStep lowerStep turnOf landed turnLanded outcomeOf stateAfter answers
 history-run = record { cells = refl; jobs = refl }

@@ -1,9 +1,9 @@
 -- What an actor does: 01, "The machine". A job and an outsider share these acts, each at the actor's label and with its history.
---     Effect                              what an act does to the tables
---     acted                               "An act below appends the actor's whole history to the value's."
---     freshJob                            a job at the start of its block
---     writeAct, relabelAct, newAct        write, relabel, new
---     startAct, execAct                 start, exec
+--     Effect                          what an act does to the tables
+--     acted                           "An act below appends the actor's whole history to the value's."
+--     freshJob                        a job at the start of its block
+--     writeAct, relabelAct, newAct    write, relabel, new
+--     startAct, execAct               start, exec
 -- Assumes nothing.
 use Prim.Native.Nat.{ℕ}
 use mathlib.Core.Bool.{Bool}

@@ -6,7 +6,7 @@ use Rattle.book.specs.declared.Value.{Value}
 use Rattle.book.specs.declared.Value.the-variants.{Plain, CellName, CodeName}
 
 module _ {X : Type 0} where
-  -- on a test: what it gives where it holds, what else
+  -- on a test: what it gives where it holds, what else; opened by name, so that a law can be about it
   unfoldable pub given : Bool → X → X → X
   given true x y = x
   given false x y = y

@@ -1,8 +1,8 @@
 -- Events, their answers, and a run: 01, "The machine".
---     done, stopped, finished, noSuch     the answers
---     Outcome, landed                     an event's answer and the state after it
---     outcomeOf                           what an event does
---     freshState, stateAfter, answers     the fresh state; a list of events, one after the other
+--     done, blockedAnswer, noStepLeft, noSuch    the answers
+--     Outcome, landed                            an event's answer and the state after it
+--     outcomeOf                                  what an event does
+--     freshState, stateAfter, answers            the fresh state; a list of events, one after the other
 -- Every book and every list of events has an answer, an accepted book or not, any number in any field. Assumes nothing.
 use Prim.Native.Nat.{ℕ}
 use mathlib.Core.Bool.{Bool, not}
@@ -29,11 +29,11 @@ use Rattle.machine.specs.Steps.{Turn, turnOf}
 abbrev pub done : ℕ
 done = 0
 
-abbrev pub stopped : ℕ
-stopped = 1
+abbrev pub blockedAnswer : ℕ
+blockedAnswer = 1
 
-abbrev pub finished : ℕ
-finished = 2
+abbrev pub noStepLeft : ℕ
+noStepLeft = 2
 
 abbrev pub noSuch : ℕ
 noSuch = 3
@@ -94,7 +94,7 @@ module _ {H : Type 0} where
 
   -- the effect on the tables; s is the state before, t the same with the actor's step done
   unfoldable pub landed : State H → State H → Effect H → Outcome H
-  landed s t blocked = unchanged stopped s
+  landed s t blocked = unchanged blockedAnswer s
   landed s t keep = changed t
   landed s t (store k c) = changed (record { cells = set (t .cells) k c; jobs = t .jobs })
   landed s t (create c) = changed (record { cells = t .cells ++ (c ∷ []); jobs = t .jobs })
@@ -131,7 +131,7 @@ module _ (A : Histories) (size : ℕ) (K : Book) where
   unfoldable pub outcomeOf : State H → Event → Outcome H
   outcomeOf s (StepOf i) =
       onSome (getElem? (s .jobs) i) (unchanged noSuch s)
-      (λ j. onSome (getElem? (blockOf K (j .block) .steps) (j .position)) (unchanged finished s)
+      (λ j. onSome (getElem? (blockOf K (j .block) .steps) (j .position)) (unchanged noStepLeft s)
       (λ p. turnLanded s i (turnOf A size s j p)))
   outcomeOf s (WriteBy q k v n) =
       ifSuch s (both (isOutsider K q) (both (cellExists s k) (valueExists K s v n))) (landed s s (writeAct A s q (one q) k (brought A q v n)))

@@ -33,8 +33,8 @@ abbrev pub fourSteps : List Event
 fourSteps = StepOf 0 ∷ StepOf 0 ∷ StepOf 0 ∷ StepOf 0 ∷ []
 
 -- book A's cell, with this number of this source
-abbrev pub cellWith : ℕ → ℕ → List CellRecord
-cellWith n l =
+abbrev pub sampleCell : ℕ → ℕ → List CellRecord
+sampleCell n l =
     record { shape = 1; trust = trust 9; label = label 9; value = record { kind = 0; number = n; source = label l } } ∷ []
 
 -- "51 03 00 00 07 00 00 00", with this label for 03
@@ -44,10 +44,10 @@ writeSeven q = WriteBy (label q) 0 0 7 ∷ []
 pub record SampleRuns : Type 0 where
   -- "Running A on 50 00 four times answers 0 0 0 2 and cell 0 is 7 with source 12"
   pub high-answers : answersOf (ofBound 0x0C) fourSteps ≡ 0 ∷ 0 ∷ 0 ∷ 2 ∷ []
-  pub high-cells : cellsAfter (ofBound 0x0C) fourSteps ≡ cellWith 7 12
+  pub high-cells : cellsAfter (ofBound 0x0C) fourSteps ≡ sampleCell 7 12
   -- "with bound 08, 0 0 1 1 and 5"
   pub stuck-answers : answersOf (ofBound 0x08) fourSteps ≡ 0 ∷ 0 ∷ 1 ∷ 1 ∷ []
-  pub stuck-cells : cellsAfter (ofBound 0x08) fourSteps ≡ cellWith 5 15
+  pub stuck-cells : cellsAfter (ofBound 0x08) fourSteps ≡ sampleCell 5 15
   -- "Event 51 03 00 00 07 00 00 00 answers 1; with 04 for 03, 3."
   pub outsider-blocked : answersOf (ofBound 0x0C) (writeSeven 3) ≡ 1 ∷ []
   pub outsider-refused : answersOf (ofBound 0x0C) (writeSeven 4) ≡ 3 ∷ []

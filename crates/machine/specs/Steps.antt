@@ -1,7 +1,7 @@
 -- A step of a job: 01, "The machine". Each kind of step is one definition.
 --     Turn                   the job after its step, and what the step does to the tables
 --     register, gets         a register of a job; a job whose step gave a register
---     addStep, .., turnOf     each kind of step; a step
+--     addStep, .., turnOf    each kind of step; a step
 -- Assumes nothing.
 use Prim.Native.Nat.{ℕ, suc, _+_, _%_}
 use lib.ListN.{length, getD, set, getElem?}

@@ -9,7 +9,7 @@ use lib.Dec.{leb, ltb, eqb}
 use Rattle.labels.specs.declared.Label.{Label}
 use Rattle.labels.specs.Labels.{reaches, isHigh}
 use Rattle.book.specs.declared.Shape.{Shape}
-use Rattle.book.specs.Numbers.{cellShapeKind}
+use Rattle.book.specs.Numbers.{cellShapeKind, maxValueKind}
 use Rattle.book.specs.Control.{both}
 use Rattle.book.specs.Book.{valueOf}
 use Rattle.book.specs.Refusals.{valueNamed}
@@ -26,7 +26,7 @@ lowCellShape c x = both (eqb (x .kind) cellShapeKind) (not (isHigh (x .trust) c)
 
 -- with so many cells and blocks: "also one that the event's value names", "a value kind above 2"
 unfoldable pub suchValue : ℕ → ℕ → ℕ → ℕ → Bool
-suchValue cells blocks k n = both (leb k 2) (valueNamed cells blocks (valueOf k n))
+suchValue cells blocks k n = both (leb k maxValueKind) (valueNamed cells blocks (valueOf k n))
 
 -- each kind of event, by an outsider of label q, where C is c
 unfoldable pub suchWrite : Label → ℕ → ℕ → Label → ℕ → ℕ → ℕ → Bool

@@ -63,8 +63,8 @@ pub fn find_block(book: &[u8], block: usize) -> Found
         Refusal::Passed => {
             let t = r.outline;
             if block < t.counts.blocks {
-                let start = t.start[block];
-                let length = t.length[block];
+                let start = t.starts[block];
+                let length = t.lengths[block];
                 return Found {
                     refusal: Refusal::Passed,
                     start: start as usize,

@@ -7,10 +7,10 @@ use mathlib.Core.Path.{_≡_, refl, sym, ap, _∙_}
 use mathlib.Core.Bool.{Bool, true, false}
 use mathlib.Core.List.{List, [], _∷_, map}
 use Prim.Native.Nat.{ℕ, _-_, _<_, _≤_}
-use native.Mathlib.Omega.{arith}
 use lib.Dec.{ltb, eqb}
 use lib.ListN.{length, take, drop, getD}
 use borrow.Author.Tests.{lt-ltb, le-ltb, ltb-false, eq-eqb, ne-eqb, eqb-true}
+use Rattle.labels.proofs.Impossible.{impossible}
 use Rattle.labels.specs.Labels.{label}
 use Rattle.book.specs.declared.Outline.{Outline}
 use Rattle.book.specs.declared.Reading.{Reading}
@@ -74,42 +74,42 @@ pub record Passes (read played : Refusal) (count cells jobs room : ℕ) : Type 0
 
 passes : (read played : Refusal) (count cells jobs room : ℕ) → Passed ≡ refusalBy read played count cells jobs room → Passes read played count cells jobs room
 unfolding refusalBy orNext untabled both unanswered
-passes (Refused n o) played count cells jobs room e = let z : _≡_ {A = ℕ} 0 1 = cc in absurd (omega arith)
-passes Passed (Refused n o) count cells jobs room e = let z : _≡_ {A = ℕ} 0 1 = cc in absurd (omega arith)
+passes (Refused n o) played count cells jobs room e = impossible cc
+passes Passed (Refused n o) count cells jobs room e = impossible cc
 passes Passed Passed count cells jobs room e = go (eqb cells 576) refl (eqb jobs 3328) refl (ltb room count) refl
   where
     go : (a : Bool) → eqb cells 576 ≡ a → (b : Bool) → eqb jobs 3328 ≡ b → (c : Bool) → ltb room count ≡ c → Passes Passed Passed count cells jobs room
     go true p true q false r =
         record { read-is = refl; played-is = refl; cells-are = eqb-true cells 576 p; jobs-are = eqb-true jobs 3328 q; fits = ltb-false room count r }
     go true p true q true r =
-        let x : Passed ≡ Refused 11 0 = simp (p, q, r) at e in let z : _≡_ {A = ℕ} 0 1 = cc in absurd (omega arith)
-    go true p false q c r = let x : Passed ≡ Refused 10 0 = simp (p, q) at e in let z : _≡_ {A = ℕ} 0 1 = cc in absurd (omega arith)
-    go false p b q c r = let x : Passed ≡ Refused 10 0 = simp p at e in let z : _≡_ {A = ℕ} 0 1 = cc in absurd (omega arith)
+        let x : Passed ≡ Refused 11 0 = simp (p, q, r) at e in impossible cc
+    go true p false q c r = let x : Passed ≡ Refused 10 0 = simp (p, q) at e in impossible cc
+    go false p b q c r = let x : Passed ≡ Refused 10 0 = simp p at e in impossible cc
 
 -- the parts of the outline that the loop is lent
 module _ (b : List ℕ) (t : Outline) (list cells jobs before : List ℕ) (y : Runnable b t list cells jobs before) where
-  pub lent-cells : t .counts .cells ≤ length (t .cell)
+  pub lent-cells : t .counts .cells ≤ length (t .offsets)
   lent-cells = drawn-cell b (y .readable) t (y .outlined)
 
-  pub lent-starts : t .counts .blocks ≤ length (t .start)
+  pub lent-starts : t .counts .blocks ≤ length (t .starts)
   lent-starts = drawn-start b (y .readable) t (y .outlined)
 
   c-is : t .c ≡ parse b .c
   unfolding outlineOf parse
   c-is = ap (λ (t : Outline). t .c) (y .outlined)
 
-  bound-first : getD (t .bound) 0 0 ≡ launchLabel (parse b) .0
+  bound-first : getD (t .bounds) 0 0 ≡ launchLabel (parse b) .0
   unfolding outlineOf parse blockAt
   bound-first =
-      ap (λ (t : Outline). getD (t .bound) 0 0) (y .outlined)
+      ap (λ (t : Outline). getD (t .bounds) 0 0) (y .outlined)
       ∙ get-pad 0 (map (boundAt b) (blocksOf b)) (64 - length (map (boundAt b) (blocksOf b))) 0 ∙ go (blocksOf b)
     where
       go : (os : List ℕ) → getD (map (boundAt b) os) 0 0 ≡ getD (map (blockAt b) os) 0 noBlock .bound .0
       go [] = refl
       go (o ∷ os) = refl
 
-  pub lent-ready : Ready b (t .c) (t .shape) (take (t .counts .cells - 0) (drop 0 (t .cell))) (take (t .counts .blocks - 0) (drop 0 (t .start)))
-      (label (getD (t .bound) 0 0)) list cells jobs before
+  pub lent-ready : Ready b (t .c) (t .shapes) (take (t .counts .cells - 0) (drop 0 (t .offsets))) (take (t .counts .blocks - 0) (drop 0 (t .starts)))
+      (label (getD (t .bounds) 0 0)) list cells jobs before
   lent-ready =
       record {
         readable = y .readable;

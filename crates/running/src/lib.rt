@@ -72,13 +72,14 @@ fn finish(
     answers: &mut [u8],
 ) -> RunResult
     requires { ⌜ Runnable (now book) t (now list) (now cells) (now jobs) (now answers) ⌝ }
-    ensures { λ r. ⌜ runBy r (now (cells .exit)) (now (jobs .exit)) (now (answers .exit)) ≡ ranOf Passed (now (book .entry)) (now (list .entry)) (now (cells .entry)) (now (jobs .entry)) (now (answers .entry)) ⌝ }
+    ensures { λ r. ⌜ runBy r (now (cells .exit)) (now (jobs .exit)) (now (answers .exit))
+        ≡ ranOf Passed (now (book .entry)) (now (list .entry)) (now (cells .entry)) (now (jobs .entry)) (now (answers .entry)) ⌝ }
     ensures { λ r. ⌜ (r .cells ≤ 64) × (r .jobs ≤ 64) ⌝ }
 {
-    let shapes = t.shape;
-    let cell = t.cell;
-    let start = t.start;
-    let bound = t.bound;
+    let shapes = t.shapes;
+    let offsets = t.offsets;
+    let starts = t.starts;
+    let bounds = t.bounds;
     let n = t.counts;
     let k = n.cells;
     let b = n.blocks;
@@ -86,9 +87,9 @@ fn finish(
         book,
         t.c,
         &shapes,
-        &cell[0..k],
-        &start[0..b],
-        Label(bound[0]),
+        &offsets[0..k],
+        &starts[0..b],
+        Label(bounds[0]),
         list,
         cells,
         jobs,
@@ -105,7 +106,8 @@ pub fn run(
     jobs: &mut [u8],
     answers: &mut [u8],
 ) -> RunResult
-    ensures { λ r. ⌜ runBy r (now (cells .exit)) (now (jobs .exit)) (now (answers .exit)) ≡ ran (now (book .entry)) (now (list .entry)) (now (cells .entry)) (now (jobs .entry)) (now (answers .entry)) ⌝ }
+    ensures { λ r. ⌜ runBy r (now (cells .exit)) (now (jobs .exit)) (now (answers .exit))
+        ≡ ran (now (book .entry)) (now (list .entry)) (now (cells .entry)) (now (jobs .entry)) (now (answers .entry)) ⌝ }
     ensures { λ r. ⌜ (r .cells ≤ 64) × (r .jobs ≤ 64) ⌝ }
 {
     let r = reading::read(book);

@@ -1,9 +1,9 @@
 -- Records put one after the other into a list, for any record type.
---     Filled                                    pre, then the first i records of l, k bytes each, then what stood there in d
---     filled-start, filled-on                   none; one more
---     filled-whole                              all of l, with nothing behind
---     Saving, saving-start, saving-on           a table, with i of the first n records in it
---     saving-end                                all n, with zeros behind
+--     Packing                            pre, then the first i records of l, k bytes each, then what stood there in d
+--     filled-start, filled-on            none; one more
+--     filled-whole                       all of l, with nothing behind
+--     Saving, saving-start, saving-on    a table, with i of the first n records in it
+--     saving-end                         all n, with zeros behind
 -- Assumes nothing.
 use mathlib.Core.Path.{_≡_, refl, sym, ap, _∙_}
 use mathlib.Core.List.{List, [], _∷_, _++_, map, map-append, append-assoc, append-nil}
@@ -15,7 +15,7 @@ use lib.ListN.{length, getD, take, drop, length-append, drop-of-length-le}
 use lib.Seq.{take-at, take-suc, take-all, drop-drop, drop-append-add}
 use Rattle.book.specs.Outline.{pad}
 use Rattle.tables.specs.Bytes.{packed}
-use Rattle.tables.specs.Asked.{put, cleared}
+use Rattle.tables.specs.Asked.{putAt, cleared}
 
 packed-append : {B : Type 0} (bytes : B → List ℕ) (l : List B) (x : B) → packed bytes (l ++ x ∷ []) ≡ packed bytes l ++ bytes x
 packed-append bytes [] x = append-nil (bytes x)
@@ -26,16 +26,16 @@ module _ {A B : Type 0} (of : A → B) (bytes : B → List ℕ) (k : ℕ) where
   abbrev front : List ℕ → List A → ℕ → List ℕ
   front pre l i = pre ++ packed bytes (map of (take i l))
 
-  pub record Filled (pre : List ℕ) (l : List A) (d out : List ℕ) (i : ℕ) : Type 0 where
+  pub record Packing (pre : List ℕ) (l : List A) (d out : List ℕ) (i : ℕ) : Type 0 where
     pub holds : out ≡ front pre l i ++ drop (length pre + i * k) d
     pub long : length (front pre l i) ≡ length pre + i * k
 
-  pub filled-start : (pre : List ℕ) (l : List A) (d : List ℕ) → Filled pre l d (pre ++ drop (length pre) d) 0
+  pub filled-start : (pre : List ℕ) (l : List A) (d : List ℕ) → Packing pre l d (pre ++ drop (length pre) d) 0
   filled-start pre l d = let e : length pre + 0 * k ≡ length pre = omega arith in record { holds = rw (append-nil, e); long = rw (append-nil, e) }
 
-  module _ (pre : List ℕ) (l : List A) (d out : List ℕ) (i : ℕ) (f : Filled pre l d out i) where
+  module _ (pre : List ℕ) (l : List A) (d out : List ℕ) (i : ℕ) (f : Packing pre l d out i) where
     pub filled-on : (z : A) (b : List ℕ) (p : ℕ) → b ≡ bytes (of (getD l i z)) → i < length l → length b ≡ k → p ≡ length pre + i * k
-        → Filled pre l d (put out p b) (i + 1)
+        → Packing pre l d (putAt out p b) (i + 1)
     filled-on z b p be lt size pe =
         let n : length (front pre l i) ≡ p = f .long ∙ sym pe in
         let q : p + length b ≡ length (front pre l i) + k = omega arith in
@@ -56,7 +56,7 @@ module _ {A B : Type 0} (of : A → B) (bytes : B → List ℕ) (k : ℕ) where
     pub sized : length l * k ≡ size
     pub long : length out ≡ size
     pub was : List ℕ
-    pub filled : Filled [] l was out i
+    pub filled : Packing [] l was out i
 
   pub saving-start : (size : ℕ) (l : List A) (n : ℕ) (out : List ℕ) → n ≤ length l → length l * k ≡ size → length out ≡ size
       → Saving size l n out 0
@@ -64,7 +64,7 @@ module _ {A B : Type 0} (of : A → B) (bytes : B → List ℕ) (k : ℕ) where
       record { few = omega arith; room = h; sized = e; long = g; was = out; filled = filled-start [] l out }
 
   module _ (size : ℕ) (l : List A) (n : ℕ) (out : List ℕ) (i : ℕ) (s : Saving size l n out i) where
-    pub saving-on : (z : A) (b new : List ℕ) → i < n → b ≡ bytes (of (getD l i z)) → length b ≡ k → new ≡ put out (i * k) b → length new ≡ length out
+    pub saving-on : (z : A) (b new : List ℕ) → i < n → b ≡ bytes (of (getD l i z)) → length b ≡ k → new ≡ putAt out (i * k) b → length new ≡ length out
         → Saving size l n new (i + 1)
     saving-on z b new h be c e g =
         record {

@@ -10,6 +10,7 @@ use native.Mathlib.Omega.{arith}
 use lib.ListN.{length, take, getD, set, replicate, length-set}
 use lib.Seq.{take-suc, take-suc-set, take-length}
 use borrow.Author.Tests.{lt-ltb, le-ltb}
+use Rattle.labels.proofs.Impossible.{impossible}
 use Rattle.labels.specs.Labels.{label}
 use Rattle.book.specs.declared.Declared.{Declared}
 use Rattle.book.specs.declared.CellAt.{CellAt}
@@ -50,8 +51,7 @@ module _ (b os : List ℕ) (cells : List StoredCell) (i : ℕ) (w : Filling b os
     pub fill-none : x ≡ NoCell → take (length os) cells ≡ openedCells b os
     fill-none e =
         let y : NoCell ≡ CellThere (declaredAt b o) = sym e ∙ found in
-        let z : _≡_ {A = ℕ} 0 1 = cc in
-        absurd (omega arith)
+        impossible cc
 
     pub fill-next : (d : Declared) (c : StoredCell) → x ≡ CellThere d → c ≡ openedBy d → Filling b os (set cells i c) (i + 1)
     unfolding openedCells

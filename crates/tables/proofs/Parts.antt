@@ -9,7 +9,7 @@ use native.Mathlib.Omega.{arith}
 use native.Mathlib.Numerals.{add-one}
 use lib.ListN.{length, getD, set, take, drop, replicate, length-set, length-append, length-replicate, replicate-append-replicate, take-append-drop, drop-of-length-le}
 use lib.Seq.{paste, paste-zero, paste-suc, take-length, length-take-le, drop-cons, set-at}
-use Rattle.tables.specs.Asked.{put, cleared}
+use Rattle.tables.specs.Asked.{putAt, cleared}
 
 pub record Copying (d : List ℕ) (at : ℕ) (s : List ℕ) (end : ℕ) (out : List ℕ) (j : ℕ) : Type 0 where
   pub ends : end ≡ length s
@@ -34,7 +34,7 @@ module _ (d : List ℕ) (at : ℕ) (s : List ℕ) (end : ℕ) (out : List ℕ) (
         holds = simp (k .holds, add-one) (paste-suc d at s j 0 a b);
       }
 
-  pub copy-end : end ≤ j → out ≡ put d at s
+  pub copy-end : end ≤ j → out ≡ putAt d at s
   copy-end h = let e : j ≡ length s = omega (arith, k .ends, k .inside) in k .holds ∙ simp (e, take-length)
 
 pub ruleset copies = (copy-start, copy-on, copy-end)

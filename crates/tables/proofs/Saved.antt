@@ -16,15 +16,15 @@ use Rattle.acts.specs.declared.Stored.{Stored}
 use Rattle.acts.specs.declared.StoredCell.{StoredCell}
 use Rattle.acts.specs.declared.StoredJob.{StoredJob}
 use Rattle.tables.specs.Bytes.{valueBytes, cellBytes, jobBytes, packed, storedRecord, trustedRecord, cellRecordIn, jobRecordOf, cellTable, jobTable, savedCells, savedJobs}
-use Rattle.tables.specs.Asked.{put, cleared, Narrow, NarrowJobs, Saved}
-use Rattle.tables.proofs.Filling.{Filled, filled-start, filled-on, filled-whole, Saving, saving-start, saving-on, saving-end}
+use Rattle.tables.specs.Asked.{putAt, cleared, Narrow, NarrowJobs, Saved}
+use Rattle.tables.proofs.Filling.{Packing, filled-start, filled-on, filled-whole, Saving, saving-start, saving-on, saving-end}
 
 pub record RegistersIn (d : List ℕ) (registers : List Stored) (out : List ℕ) (i : ℕ) : Type 0 where
   pub few : i ≤ 8
   pub eight : length registers ≡ 8
   pub long : length out ≡ 52
   pub was : length d ≡ 52
-  pub filled : Filled storedRecord valueBytes 6 (take 4 d) registers d out i
+  pub filled : Packing storedRecord valueBytes 6 (take 4 d) registers d out i
 
 -- of an array in a struct the length is known under `map`
 pub registers-start : {Y : Type 0} (g : Stored → Y) (d : List ℕ) (registers : List Stored) → length (map g registers) ≡ 8 → length d ≡ 52
@@ -41,7 +41,7 @@ registers-start g d registers e was =
     }
 
 module _ (d : List ℕ) (registers : List Stored) (out : List ℕ) (i : ℕ) (s : RegistersIn d registers out i) where
-  pub registers-on : (z : Stored) (b new : List ℕ) → i < 8 → b ≡ valueBytes (storedRecord (getD registers i z)) → new ≡ put out (4 + i * 6) b
+  pub registers-on : (z : Stored) (b new : List ℕ) → i < 8 → b ≡ valueBytes (storedRecord (getD registers i z)) → new ≡ putAt out (4 + i * 6) b
       → length new ≡ length out → RegistersIn d registers new (i + 1)
   registers-on z b new h eb e g =
       let l : length (take 4 d) ≡ 4 = length-take-le 4 d (omega (arith, s .was)) in
@@ -65,29 +65,29 @@ module _ (d : List ℕ) (registers : List Stored) (out : List ℕ) (i : ℕ) (s 
 
 pub ruleset register-saves = (registers-start, registers-on, registers-end)
 
-pub record CellsIn (table : List ℕ) (cells : List StoredCell) (n : ℕ) (out : List ℕ) (i : ℕ) : Type 0 where
-  pub saving : Saving (cellRecordIn table) cellBytes 9 576 cells n out i
+pub record CellsIn (shapes : List ℕ) (cells : List StoredCell) (n : ℕ) (out : List ℕ) (i : ℕ) : Type 0 where
+  pub saving : Saving (cellRecordIn shapes) cellBytes 9 576 cells n out i
 
-module _ (table : List ℕ) (cells : List StoredCell) (n : ℕ) (out : List ℕ) where
-  pub cells-start : n ≤ 64 → length cells ≡ 64 → length out ≡ 576 → CellsIn table cells n out 0
-  cells-start h e g = record { saving = saving-start (cellRecordIn table) cellBytes 9 576 cells n out (omega arith) (omega arith) g }
+module _ (shapes : List ℕ) (cells : List StoredCell) (n : ℕ) (out : List ℕ) where
+  pub cells-start : n ≤ 64 → length cells ≡ 64 → length out ≡ 576 → CellsIn shapes cells n out 0
+  cells-start h e g = record { saving = saving-start (cellRecordIn shapes) cellBytes 9 576 cells n out (omega arith) (omega arith) g }
 
-  module _ (i : ℕ) (s : CellsIn table cells n out i) where
-    pub cells-on : (z : StoredCell) (x : Shape) (b new : List ℕ) → i < n → x ≡ shapeIn table (getD cells i z .shape)
-        → b ≡ cellBytes (trustedRecord (x .trust) (getD cells i z)) → new ≡ put out (i * 9) b → length new ≡ length out
-        → CellsIn table cells n new (i + 1)
+  module _ (i : ℕ) (s : CellsIn shapes cells n out i) where
+    pub cells-on : (z : StoredCell) (x : Shape) (b new : List ℕ) → i < n → x ≡ shapeIn shapes (getD cells i z .shape)
+        → b ≡ cellBytes (trustedRecord (x .trust) (getD cells i z)) → new ≡ putAt out (i * 9) b → length new ≡ length out
+        → CellsIn shapes cells n new (i + 1)
     cells-on z x b new h ex eb e g =
-        let r : b ≡ cellBytes (cellRecordIn table (getD cells i z)) = rw ex at eb in
-        record { saving = saving-on (cellRecordIn table) cellBytes 9 576 cells n out i (s .saving) z b new h r (ap length eb) e g }
+        let r : b ≡ cellBytes (cellRecordIn shapes (getD cells i z)) = rw ex at eb in
+        record { saving = saving-on (cellRecordIn shapes) cellBytes 9 576 cells n out i (s .saving) z b new h r (ap length eb) e g }
 
-    pub cells-end : (new : List ℕ) → n ≤ i → new ≡ cleared out (n * 9) → new ≡ savedCells table (take n cells)
+    pub cells-end : (new : List ℕ) → n ≤ i → new ≡ cleared out (n * 9) → new ≡ savedCells shapes (take n cells)
     unfolding savedCells cellTable
-    cells-end new h e = saving-end (cellRecordIn table) cellBytes 9 576 cells n out i (s .saving) new h e
+    cells-end new h e = saving-end (cellRecordIn shapes) cellBytes 9 576 cells n out i (s .saving) new h e
 
 pub ruleset cell-saves = (cells-start, cells-on, cells-end)
 
 -- its bytes are put where they belong
-pub job-saved : (j : StoredJob) (i : ℕ) (before after b : List ℕ) → b ≡ jobBytes (jobRecordOf j) → length b ≡ 52 → after ≡ put before (i * 52) b
+pub job-saved : (j : StoredJob) (i : ℕ) (before after b : List ℕ) → b ≡ jobBytes (jobRecordOf j) → length b ≡ 52 → after ≡ putAt before (i * 52) b
     → Saved j i before after
 job-saved j i before after b eb l e = record { is = rw eb at e; long = rw eb at l }
 

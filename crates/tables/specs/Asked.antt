@@ -1,18 +1,18 @@
 -- What the functions inside this crate do to a part of the lent memory, and what saving asks of jobs. No call that a user makes speaks of it.
---     put                    a list from an index on
---     cleared                zeros from an index on
---     Narrow, NarrowJobs     a job whose block and position are bytes; the first m of an array
---     Saved                  a job is entry i of a table
+--     putAt                 a list from an index on
+--     cleared               zeros from an index on
+--     Narrow, NarrowJobs    a job whose block and position are bytes; the first m of an array
+--     Saved                 a job is entry i of a table
 -- Assumes nothing.
 use Prim.Native.Nat.{ℕ, _+_, _*_, _-_, _<_}
 use mathlib.Core.Path.{_≡_}
 use mathlib.Core.List.{List, _++_}
 use lib.ListN.{length, take, drop, replicate, getD}
 use Rattle.acts.specs.declared.StoredJob.{StoredJob}
-use Rattle.tables.specs.Bytes.{jobBytes, jobRecordOf, jobSize}
+use Rattle.tables.specs.Bytes.{jobBytes, jobRecordOf, jobLength}
 
-abbrev pub put : List ℕ → ℕ → List ℕ → List ℕ
-put d at s = take at d ++ s ++ drop (at + length s) d
+abbrev pub putAt : List ℕ → ℕ → List ℕ → List ℕ
+putAt d at s = take at d ++ s ++ drop (at + length s) d
 
 abbrev pub cleared : List ℕ → ℕ → List ℕ
 cleared d at = take at d ++ replicate (length d - at) 0
@@ -25,5 +25,5 @@ pub record NarrowJobs (jobs : List StoredJob) (m : ℕ) : Type 0 where
   pub each : (i : ℕ) (d : StoredJob) → i < m → Narrow (getD jobs i d)
 
 pub record Saved (j : StoredJob) (i : ℕ) (before after : List ℕ) : Type 0 where
-  pub is : after ≡ put before (i * jobSize) (jobBytes (jobRecordOf j))
-  pub long : length (jobBytes (jobRecordOf j)) ≡ jobSize
+  pub is : after ≡ putAt before (i * jobLength) (jobBytes (jobRecordOf j))
+  pub long : length (jobBytes (jobRecordOf j)) ≡ jobLength

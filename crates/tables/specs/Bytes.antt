@@ -1,9 +1,9 @@
 -- The records of a run as bytes: 01, "The machine". A table is lent memory of 64 records, one after the other, numbers little-endian.
---     numberBytes, valueBytes, cellBytes, jobBytes     a number, and each record
---     cellSize, .., jobTableSize                       the bytes of a record, and of a table
---     packed, cellTable, jobTable                      records one after the other; the whole tables
---     storedRecord, cellRecordIn, jobRecordOf          the records of what the code holds
---     savedCells, savedJobs                            the tables of what the code holds
+--     numberBytes, valueBytes, cellBytes, jobBytes    a number, and each record
+--     cellLength, .., jobTableLength                  the bytes of a record, and of a table
+--     packed, cellTable, jobTable                     records one after the other; the whole tables
+--     storedRecord, cellRecordIn, jobRecordOf         the records of what the code holds
+--     savedCells, savedJobs                           the tables of what the code holds
 -- Assumes nothing.
 use Prim.Native.Nat.{ℕ, _*_, _%_, _/_}
 use mathlib.Core.List.{List, [], _∷_, _++_, map}
@@ -40,24 +40,24 @@ abbrev pub jobBytes : JobRecord → List ℕ
 jobBytes j = j .block ∷ j .position ∷ j .label .0 ∷ j .source .0 ∷ packed valueBytes (j .registers)
 
 -- the bytes of a record, and of a table
-abbrev pub cellSize : ℕ
-cellSize = 9
+abbrev pub cellLength : ℕ
+cellLength = 9
 
-abbrev pub jobSize : ℕ
-jobSize = 52
+abbrev pub jobLength : ℕ
+jobLength = 52
 
-abbrev pub cellTableSize : ℕ
-cellTableSize = tableSize * cellSize
+abbrev pub cellTableLength : ℕ
+cellTableLength = tableSize * cellLength
 
-abbrev pub jobTableSize : ℕ
-jobTableSize = tableSize * jobSize
+abbrev pub jobTableLength : ℕ
+jobTableLength = tableSize * jobLength
 
 -- "Unused table entries are all zero after a run"
 unfoldable pub cellTable : List CellRecord → List ℕ
-cellTable cells = pad cellTableSize 0 (packed cellBytes cells)
+cellTable cells = pad cellTableLength 0 (packed cellBytes cells)
 
 unfoldable pub jobTable : List JobRecord → List ℕ
-jobTable jobs = pad jobTableSize 0 (packed jobBytes jobs)
+jobTable jobs = pad jobTableLength 0 (packed jobBytes jobs)
 
 -- the records of the code's values, cells and jobs
 abbrev pub storedRecord : Stored → ValueRecord
@@ -68,7 +68,7 @@ trustedRecord t c = record { shape = c .shape; trust = t; label = c .label; valu
 
 -- the trust "fixed by its shape", by the table of shapes
 abbrev pub cellRecordIn : List ℕ → StoredCell → CellRecord
-cellRecordIn table c = trustedRecord (shapeIn table (c .shape) .trust) c
+cellRecordIn shapes c = trustedRecord (shapeIn shapes (c .shape) .trust) c
 
 abbrev pub jobRecordOf : StoredJob → JobRecord
 jobRecordOf j =
@@ -76,7 +76,7 @@ jobRecordOf j =
 
 -- the tables of the cells and jobs in use
 unfoldable pub savedCells : List ℕ → List StoredCell → List ℕ
-savedCells table cells = cellTable (map (cellRecordIn table) cells)
+savedCells shapes cells = cellTable (map (cellRecordIn shapes) cells)
 
 unfoldable pub savedJobs : List StoredJob → List ℕ
 savedJobs jobs = jobTable (map jobRecordOf jobs)

@@ -9,14 +9,14 @@ ghost use mathlib.Core.Path.{_≡_};
 ghost use Prim.Native.Nat.{_+_, _≤_, _<_};
 ghost use lib.ListN.{length, take};
 ghost use Rattle.tables.specs.Bytes.{valueBytes, cellBytes, jobBytes, storedRecord, trustedRecord, jobRecordOf, savedCells};
-ghost use Rattle.tables.specs.Asked.{put, cleared, Narrow, Saved};
+ghost use Rattle.tables.specs.Asked.{putAt, cleared, Narrow, Saved};
 pub use opening::open_cells;
 pub use opening::start_of;
 
 // Copies src into dst, from index at on.
 fn copy_in(dst: &mut [u8], at: usize, src: &[u8])
     requires { ⌜ at + length (now src) ≤ length (now dst) ⌝ }
-    ensures { λ _. ⌜ now (dst .exit) ≡ put (now (dst .entry)) at (now (src .entry)) ⌝ }
+    ensures { λ _. ⌜ now (dst .exit) ≡ putAt (now (dst .entry)) at (now (src .entry)) ⌝ }
 {
     for j in 0..src.len() {
         dst[at + j] = src[j];

@@ -22,7 +22,7 @@ use Rattle.machine.specs.States.{Traced, State}
 use Rattle.machine.specs.States as States
 use Rattle.machine.specs.Acts.{keep, acted, writeAct, relabelAct, newAct, startAct, execAct}
 use Rattle.machine.specs.Acts as Acts
-use Rattle.machine.specs.Steps.{Turn, sum, register, turn, stay, moved, gets, addStep, readStep, lowerStep, through, turnOf}
+use Rattle.machine.specs.Steps.{Turn, sum, turn, stay, moved, gets, addStep, readStep, lowerStep, through, turnOf}
 use Rattle.machine.specs.Events.{tableSize}
 use Rattle.acts.specs.declared.Stored.{Stored}
 use Rattle.acts.specs.declared.Near.{Near}

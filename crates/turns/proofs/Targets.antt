@@ -4,16 +4,18 @@
 -- Assumes nothing.
 use mathlib.Core.Path.{_≡_, refl, sym, ap, _∙_}
 use mathlib.Core.List.{List}
+use mathlib.Core.Option.{Option, none, some}
 use Prim.Native.Nat.{ℕ}
 use Rattle.labels.specs.declared.Label.{Label}
+use Rattle.labels.specs.Labels.{label}
 use Rattle.book.specs.declared.Step.{Step}
-use Rattle.book.specs.declared.Step.the-variants.{Put, Name, Code, Add, New, Read, Write, Relabel, Lower, Start, Exec}
+use Rattle.book.specs.Parts.{partsOf}
 use Rattle.machine.specs.States.{Traced}
 use Rattle.machine.specs.Records.{numberOf}
 use Rattle.machine.proofs.Named.{number-is}
 use Rattle.acts.specs.declared.Stored.{Stored}
 use Rattle.acts.specs.Views.{storedOf, actor}
-use Rattle.turns.specs.Turns.{targetBy, targetIn, reachedBy, reachedIn}
+use Rattle.turns.specs.Turns.{targetThrough, targetBy, targetIn, reachedBy, reachedIn}
 
 -- u is the register that names the cell which step p reaches
 module _ (p : Step) (h : Label) (rs : List Stored) where
@@ -22,17 +24,8 @@ module _ (p : Step) (h : Label) (rs : List Stored) where
 
   pub reached-same : (l : Label) (b i : ℕ) → reachedBy p (actor l h rs b i) ≡ reachedIn p h rs
   unfolding targetBy
-  reached-same l b i = go p
+  reached-same l b i = go (partsOf p .through)
     where
-      go : (p : Step) → reachedBy p (actor l h rs b i) ≡ reachedIn p h rs
-      go (Put r n) = refl
-      go (Name r k) = refl
-      go (Code r k) = refl
-      go (Add r x y) = refl
-      go (New r x y) = refl
-      go (Read r w) = refl
-      go (Write w x) = refl
-      go (Relabel w o) = refl
-      go (Lower q) = refl
-      go (Start x) = refl
-      go (Exec w) = refl
+      go : (w : Option ℕ) → numberOf (targetThrough w (actor l h rs b i) .value) ≡ numberOf (targetThrough w (actor (label 0) h rs 0 0) .value)
+      go none = refl
+      go (some w) = refl

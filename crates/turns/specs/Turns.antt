@@ -1,6 +1,6 @@
 -- A step, as the code takes it: the cell that it reaches, and what it does.
 --     numberIn                             the number in a register
---     targetBy, reachedBy                  the register that names the cell which a step reaches; that cell
+--     targetThrough, targetBy, reachedBy   the register that names the cell which a step reaches; that cell
 --     targetIn, reachedIn                  the same, by what they depend on
 --     Takes                                contract: what a step does
 --     Gives, Changes, Launches             kinds of steps, by what they do
@@ -8,10 +8,11 @@
 use Prim.Native.Nat.{ℕ, _<_, _≤_}
 use mathlib.Core.Path.{_≡_}
 use mathlib.Core.List.{List}
+use mathlib.Core.Option.{Option, none, some}
 use Rattle.labels.specs.declared.Label.{Label}
 use Rattle.labels.specs.Labels.{label}
 use Rattle.book.specs.declared.Step.{Step}
-use Rattle.book.specs.declared.Step.the-variants as Step
+use Rattle.book.specs.Parts.{partsOf}
 use Rattle.machine.specs.Histories.{sources}
 use Rattle.machine.specs.States.{Traced, State}
 use Rattle.machine.specs.States as States
@@ -29,18 +30,12 @@ abbrev pub numberIn : States.Job Label → ℕ → ℕ
 numberIn j w = numberOf (register sources j w .value)
 
 -- the register that names the cell which a step reaches; a plain 0 where it reaches none
+abbrev pub targetThrough : Option ℕ → States.Job Label → Traced Label
+targetThrough none j = zeroWith sources (j .history)
+targetThrough (some w) j = register sources j w
+
 unfoldable pub targetBy : Step → States.Job Label → Traced Label
-targetBy (Step.Put r n) j = zeroWith sources (j .history)
-targetBy (Step.Name r k) j = zeroWith sources (j .history)
-targetBy (Step.Code r b) j = zeroWith sources (j .history)
-targetBy (Step.Add r a b) j = zeroWith sources (j .history)
-targetBy (Step.New r i a) j = zeroWith sources (j .history)
-targetBy (Step.Read r w) j = register sources j w
-targetBy (Step.Write w a) j = register sources j w
-targetBy (Step.Relabel w o) j = register sources j w
-targetBy (Step.Lower q) j = zeroWith sources (j .history)
-targetBy (Step.Start b) j = zeroWith sources (j .history)
-targetBy (Step.Exec w) j = register sources j w
+targetBy p j = targetThrough (partsOf p .through) j
 
 -- the cell that a step reaches
 abbrev pub reachedBy : Step → States.Job Label → ℕ

@@ -242,9 +242,9 @@ pub fn launch(
     requires { ⌜ Launches (byteAt (now s) o) × (o ≤ length (now s)) × (storedOf u ≡ targetIn (stepAt (now s) o) h registers) ⌝ }
     ensures { λ x. ⌜ Takes launchSort (nearby near) (stepAt (now (s .entry)) o) l h registers x ⌝ }
 {
-    let k = records::byte(s, o);
+    let kind = records::byte(s, o);
     let x = records::byte(s, o + 1);
-    if k == kind::START {
+    if kind == kind::START {
         return acts::start_job(l, h, near, x as u32);
     }
     exec(l, h, registers, near, u, x)

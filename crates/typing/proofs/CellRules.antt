@@ -5,10 +5,10 @@ use mathlib.Core.Path.{_≡_, refl, sym, ap, _∙_}
 use mathlib.Core.Bool.{Bool, true, false}
 use mathlib.Core.List.{List}
 use Prim.Native.Nat.{ℕ, _≤_, _<_}
-use native.Mathlib.Omega.{arith}
 use lib.Dec.{eqb}
 use lib.ListN.{length, getD, getElem?}
 use borrow.Author.Tests.{ne-eqb}
+use Rattle.labels.proofs.Impossible.{impossible}
 use Rattle.labels.specs.declared.Label.{Label}
 use Rattle.labels.specs.declared.Trust.{Trust}
 use Rattle.labels.specs.Labels.{label, reaches, isMet, covers, capped}
@@ -22,8 +22,9 @@ use Rattle.typing.specs.declared.KnownCell.the-variants.{Of, No}
 use Rattle.typing.specs.declared.Register.{Register}
 use Rattle.typing.specs.declared.State.{State}
 use Rattle.typing.specs.declared.Stepped.{Stepped}
-use Rattle.typing.specs.Shapes.{contentOf, countedTrust, highTrust, knownOf, fits}
-use Rattle.typing.specs.Rules.{Typed, passes, stuck, breaks, breaksUnless, stuckUnless, onKnownCell, onKnownCode, registerType, gives, givesLow, used, known, holds, nameRule, codeRule, newRule, readFrom, readRule, writeRule, relabelRule, execRule, startRule}
+use Rattle.typing.specs.Shapes.{contentOf, countedTrust, isHighTrust, knownOf, fits}
+use Rattle.typing.specs.Rules.{Typed, passes, stuck, breaks, breaksUnless, stuckUnless, onKnownCell, onKnownCode, registerType, gives, givesLow, used, known, holds}
+use Rattle.typing.specs.Rules.{nameRule, codeRule, newRule, readFrom, readRule, writeRule, relabelRule, execRule, startRule}
 use Rattle.typing.specs.Asked.{asLabel, told, cellOn}
 
 -- x is what the code hands back
@@ -111,13 +112,13 @@ unfolding cellOn onKnownCell
 is-none Unknown q e n f = refl
 is-none Plain q e n f = refl
 is-none (Code b) q e n f = refl
-is-none (CellOf i) q e n f = let z : _≡_ {A = ℕ} 0 1 = cc in absurd (omega arith)
+is-none (CellOf i) q e n f = impossible cc
 
 is-of : (k : Known) (q : KnownCell) (i : ℕ) → q ≡ cellOn k → q ≡ Of i → (f : ℕ → Typed) → onKnownCell k f ≡ f i
 unfolding cellOn onKnownCell
-is-of Unknown q i e n f = let z : _≡_ {A = ℕ} 0 1 = cc in absurd (omega arith)
-is-of Plain q i e n f = let z : _≡_ {A = ℕ} 0 1 = cc in absurd (omega arith)
-is-of (Code b) q i e n f = let z : _≡_ {A = ℕ} 0 1 = cc in absurd (omega arith)
+is-of Unknown q i e n f = impossible cc
+is-of Plain q i e n f = impossible cc
+is-of (Code b) q i e n f = impossible cc
 is-of (CellOf j) q i e n f = let z : j ≡ i = cc in ap f z
 
 module _ (c : Label) (shape : ℕ → Shape) (s : State) (r i a : ℕ) (x : Stepped) (y : Shape) (ey : y ≡ shape i) where
@@ -125,7 +126,7 @@ module _ (c : Label) (shape : ℕ → Shape) (s : State) (r i a : ℕ) (x : Step
   unfolding breaksUnless both
   new-other n e = e ∙ simp (← ey, ne-eqb _ _ n)
 
-  module _ (n : y .kind ≡ 18) (h : Bool) (eh : h ≡ highTrust c shape i) where
+  module _ (n : y .kind ≡ 18) (h : Bool) (eh : h ≡ isHighTrust c shape i) where
     cell : shape i .kind ≡ 18
     cell = ap (λ (y : Shape). y .kind) (sym ey) ∙ n
 
@@ -189,7 +190,7 @@ module _ (c : Label) (shape : ℕ → Shape) (s : State) (w : ℕ) (x : Stepped)
       unfolding stuckUnless
       write-stuck a f e = e ∙ simp (is-of (known c s w) q i eq n, met, f)
 
-      module _ (f : m ≡ true) (h : Bool) (eh : h ≡ highTrust c shape i) where
+      module _ (f : m ≡ true) (h : Bool) (eh : h ≡ isHighTrust c shape i) where
         pub write-low : (a : ℕ) → h ≡ false → told s x ≡ passes s → told s x ≡ writeRule c shape s w a
         unfolding stuckUnless breaksUnless either
         write-low a g e = e ∙ simp (is-of (known c s w) q i eq n, met, f, ← eh, g)

@@ -19,49 +19,49 @@ use Rattle.book.specs.Outline.{shapeIn}
 use Rattle.book.proofs.Lists.{at-some, at-none}
 use Rattle.typing.specs.declared.Known.{Known}
 use Rattle.typing.specs.declared.Known.the-variants.{Unknown, Plain, Code, CellOf}
-use Rattle.typing.specs.Shapes.{countedTrust, highTrust, fits, knownValue, declaredOk}
+use Rattle.typing.specs.Shapes.{countedTrust, isHighTrust, fits, knownValue, declaredOk}
 use Rattle.typing.specs.Asked.{asLabel, tableView, knownIn}
 
-module _ (owners bounds : List ℕ) (v : Value) (n : ℕ) where
-  pub value-plain : v ≡ Values.Plain n → Plain ≡ knownIn owners bounds v
+module _ (shaped bounds : List ℕ) (v : Value) (n : ℕ) where
+  pub value-plain : v ≡ Values.Plain n → Plain ≡ knownIn shaped bounds v
   unfolding knownIn knownValue
   value-plain e = simp e
 
-  pub value-cell : v ≡ CellName n → n < length owners → CellOf (getD owners n 0) ≡ knownIn owners bounds v
+  pub value-cell : v ≡ CellName n → n < length shaped → CellOf (getD shaped n 0) ≡ knownIn shaped bounds v
   unfolding knownIn knownValue onSome
-  value-cell e h = simp (e, at-some owners n h)
+  value-cell e h = simp (e, at-some shaped n h)
 
-  pub value-no-cell : v ≡ CellName n → length owners ≤ n → Unknown ≡ knownIn owners bounds v
+  pub value-no-cell : v ≡ CellName n → length shaped ≤ n → Unknown ≡ knownIn shaped bounds v
   unfolding knownIn knownValue onSome
-  value-no-cell e h = simp (e, at-none owners n h)
+  value-no-cell e h = simp (e, at-none shaped n h)
 
-  pub value-code : v ≡ CodeName n → n < length bounds → Code (label (getD bounds n 0)) ≡ knownIn owners bounds v
+  pub value-code : v ≡ CodeName n → n < length bounds → Code (label (getD bounds n 0)) ≡ knownIn shaped bounds v
   unfolding knownIn knownValue onSome asLabel
   value-code e h = simp (e, at-some bounds n h)
 
-  pub value-no-code : v ≡ CodeName n → length bounds ≤ n → Unknown ≡ knownIn owners bounds v
+  pub value-no-code : v ≡ CodeName n → length bounds ≤ n → Unknown ≡ knownIn shaped bounds v
   unfolding knownIn knownValue onSome asLabel
   value-no-code e h = simp (e, at-none bounds n h)
 
 pub ruleset values = (value-plain, value-cell, value-no-cell, value-code, value-no-code)
 
 -- h: the trust is above C
-module _ (c : Label) (table owners bounds : List ℕ) (d : Declared) (h : Bool) (eh : h ≡ highTrust c (shapeIn table) (d .shape)) where
-  pub declared-low : h ≡ false → true ≡ declaredOk (tableView c table owners bounds) d
+module _ (c : Label) (shapes shaped bounds : List ℕ) (d : Declared) (h : Bool) (eh : h ≡ isHighTrust c (shapeIn shapes) (d .shape)) where
+  pub declared-low : h ≡ false → true ≡ declaredOk (tableView c shapes shaped bounds) d
   unfolding declaredOk
   declared-low e = simp (← eh, e)
 
-  module _ (e : h ≡ true) (t : Trust) (m : Bool) (et : t ≡ countedTrust c (shapeIn table) (d .shape)) (em : m ≡ isMet t (d .label)) where
-    met : isMet (countedTrust c (shapeIn table) (d .shape)) (d .label) ≡ m
+  module _ (e : h ≡ true) (t : Trust) (m : Bool) (et : t ≡ countedTrust c (shapeIn shapes) (d .shape)) (em : m ≡ isMet t (d .label)) where
+    met : isMet (countedTrust c (shapeIn shapes) (d .shape)) (d .label) ≡ m
     met = ap (λ (t : Trust). isMet t (d .label)) (sym et) ∙ sym em
 
-    pub declared-under : m ≡ false → false ≡ declaredOk (tableView c table owners bounds) d
+    pub declared-under : m ≡ false → false ≡ declaredOk (tableView c shapes shaped bounds) d
     unfolding declaredOk both
     declared-under n = simp (← eh, e, met, n)
 
     pub declared-fits : (k : Known) (y : Shape) (b : Bool) → m ≡ true
-        → k ≡ knownIn owners bounds (d .value)
-        → y ≡ shapeIn table (d .shape) → b ≡ fits c (shapeIn table) k (y .content) → b ≡ declaredOk (tableView c table owners bounds) d
+        → k ≡ knownIn shaped bounds (d .value)
+        → y ≡ shapeIn shapes (d .shape) → b ≡ fits c (shapeIn shapes) k (y .content) → b ≡ declaredOk (tableView c shapes shaped bounds) d
     unfolding declaredOk both knownIn
     declared-fits k y b n ek ey eb = eb ∙ rw (ek, ey) (simp (← eh, e, met, n))
 

@@ -18,21 +18,21 @@ use Rattle.book.specs.Asked.{Sound}
 use Rattle.book.proofs.Tests.{either-false}
 use Rattle.typing.specs.declared.Known.{Known}
 use Rattle.typing.specs.declared.Known.the-variants.{Unknown, Plain, Code, CellOf}
-use Rattle.typing.specs.Shapes.{isPlainShape, isCodeShape, isCellShape, boundOf, contentOf, countedTrust, highTrust, alikeIn, alike, knownOf, fits}
-use Rattle.typing.specs.Asked.{plainShape}
+use Rattle.typing.specs.Shapes.{isPlainShape, isCodeShape, isCellShape, boundOf, contentOf, countedTrust, isHighTrust, alikeIn, alike, knownOf, fits}
+use Rattle.typing.specs.Asked.{isPlain}
 
 module _ (x : Shape) where
-  pub plain-code : x .kind ≡ 17 → false ≡ plainShape x
+  pub plain-code : x .kind ≡ 17 → false ≡ isPlain x
   unfolding both
   plain-code e = simp e
 
-  pub plain-other : (x .kind ≡ 17 → ⊥) → not (eqb (x .kind) 18) ≡ plainShape x
+  pub plain-other : (x .kind ≡ 17 → ⊥) → not (eqb (x .kind) 18) ≡ isPlain x
   unfolding both
   plain-other n = simp (ne-eqb _ _ n)
 
 pub ruleset plains = (plain-code, plain-other)
 
-pub high-is : (c : Label) (shape : ℕ → Shape) (i : ℕ) (t : Trust) (b : Bool) → t ≡ countedTrust c shape i → b ≡ isHigh t c → b ≡ highTrust c shape i
+pub high-is : (c : Label) (shape : ℕ → Shape) (i : ℕ) (t : Trust) (b : Bool) → t ≡ countedTrust c shape i → b ≡ isHigh t c → b ≡ isHighTrust c shape i
 high-is c shape i t b e h = h ∙ ap (λ (t : Trust). isHigh t c) e
 
 module _ (c : Label) (shape : ℕ → Shape) (i : ℕ) (x : Shape) (ex : x ≡ shape i) where
@@ -96,7 +96,7 @@ module _ (c : Label) (shape : ℕ → Shape) (i j : ℕ) (a b : Shape) (ea : a �
   unfolding alike alikeIn both either
   like-cell-not p q = simp (← ea, ← eb, p, ne-eqb _ _ q)
 
-  pub like-plain : (r : Bool) → (a .kind ≡ 17 → ⊥) → (a .kind ≡ 18 → ⊥) → r ≡ plainShape b → r ≡ alike c shape i j
+  pub like-plain : (r : Bool) → (a .kind ≡ 17 → ⊥) → (a .kind ≡ 18 → ⊥) → r ≡ isPlain b → r ≡ alike c shape i j
   unfolding alike alikeIn both either
   like-plain r p q e = e ∙ simp (← ea, ← eb, ne-eqb _ _ p, ne-eqb _ _ q, either-false)
 
@@ -141,7 +141,7 @@ module _ (c : Label) (shape : ℕ → Shape) (k : Known) (i : ℕ) where
     unfolding fits both
     fits-code-not b z p = simp (z, ← ea, ne-eqb _ _ p)
 
-    pub fits-plain : (r : Bool) → k ≡ Plain → r ≡ plainShape a → r ≡ fits c shape k i
+    pub fits-plain : (r : Bool) → k ≡ Plain → r ≡ isPlain a → r ≡ fits c shape k i
     unfolding fits
     fits-plain r z e = e ∙ simp (z, ← ea)
 

@@ -1,4 +1,5 @@
 -- What typing asks of a book, from an outline's tables, and how the code hands a rule's answer back.
+--     isPlain, asLabel     a plain shape; a label that may be missing
 --     tableView, knownIn   what typing asks of a book, from the tables
 --     told, cellOn         a rule's answer; a known shape that is a cell
 -- Assumes nothing.
@@ -25,8 +26,8 @@ use Rattle.typing.specs.declared.Stepped.the-variants.{Passes, Gives, Lo
 use Rattle.typing.specs.Shapes.{View, knownValue}
 use Rattle.typing.specs.Rules.{Typed, passes, stuck, breaks, gives, lowersTo}
 
-abbrev pub plainShape : Shape → Bool
-plainShape x = both (not (eqb (x .kind) codeShapeKind)) (not (eqb (x .kind) cellShapeKind))
+abbrev pub isPlain : Shape → Bool
+isPlain x = both (not (eqb (x .kind) codeShapeKind)) (not (eqb (x .kind) cellShapeKind))
 
 unfoldable pub asLabel : Option ℕ → Option Label
 asLabel none = none
@@ -34,12 +35,12 @@ asLabel (some n) = some (label n)
 
 -- from the table of shapes, the cells' shapes and the blocks' bounds
 abbrev pub tableView : Label → List ℕ → List ℕ → List ℕ → View
-tableView c shapes cells bounds =
-    record { c = c; shape = shapeIn shapes; cell = getElem? cells; bound = λ b. asLabel (getElem? bounds b) }
+tableView c shapes shaped bounds =
+    record { c = c; shape = shapeIn shapes; cell = getElem? shaped; bound = λ b. asLabel (getElem? bounds b) }
 
 -- what is known of a declared value, from the tables
 unfoldable pub knownIn : List ℕ → List ℕ → Value → Known
-knownIn cells bounds v = knownValue (getElem? cells) (λ b. asLabel (getElem? bounds b)) v
+knownIn shaped bounds v = knownValue (getElem? shaped) (λ b. asLabel (getElem? bounds b)) v
 
 -- what the code hands back, as a rule's answer in the state s
 unfoldable pub told : State → Stepped → Typed

@@ -1,13 +1,13 @@
 -- The typing rules of the steps: 01, "Typing a block".
---     Typed                       what a step's rule says
---     known, used                 a register's shape and effect, as a rule may use them
---     stepRule                        the rule of a step
---     fault                       the walk of the rest of a block from any state
+--     Typed          what a step's rule says
+--     known, used    a register's shape and effect, as a rule may use them
+--     stepRule       the rule of a step
+--     fault          the walk of the rest of a block from any state
 -- Assumes nothing.
 use Prim.Native.Nat.{ℕ}
 use mathlib.Core.Bool.{Bool, true, false, not}
 use mathlib.Core.List.{List, [], _∷_}
-use mathlib.Core.Option.{Option}
+use mathlib.Core.Option.{Option, none, some}
 use lib.ListN.{getD, set, replicate}
 use Rattle.labels.specs.declared.Label.{Label}
 use Rattle.labels.specs.Labels.{label, lower, reaches, isMet, covers, capped}
@@ -17,12 +17,13 @@ use Rattle.book.specs.declared.Shape.{Shape}
 use Rattle.book.specs.declared.Step.{Step}
 use Rattle.book.specs.declared.Step.the-variants.{Put, Name, Add, New, Read, Write, Relabel, Lower, Start, Exec}
 use Rattle.book.specs.declared.Step.the-variants as S
+use Rattle.book.specs.Parts.{Reference, toNothing, toCell, toBlock, toCellShape, partsOf}
 use Rattle.book.specs.Control.{if_then_else_, both, either, onSome}
 use Rattle.typing.specs.declared.Known.{Known}
 use Rattle.typing.specs.declared.Known.the-variants.{Unknown, Plain, Code, CellOf}
 use Rattle.typing.specs.declared.Register.{Register}
 use Rattle.typing.specs.declared.State.{State}
-use Rattle.typing.specs.Shapes.{View, isCellShape, contentOf, countedTrust, highTrust, knownOf, fits}
+use Rattle.typing.specs.Shapes.{View, isCellShape, contentOf, countedTrust, isHighTrust, knownOf, fits}
 
 -- the state after the step; stuck; or the rule is broken
 pub data Typed : Type 0 where
@@ -110,19 +111,22 @@ module _ (c : Label) (shape : ℕ → Shape) where
   unfoldable pub holds : State → ℕ → ℕ → Bool
   holds t a i = both (fits c shape (known c t a) (contentOf c shape i)) (isMet (countedTrust c shape i) (used t a))
 
-  -- "With P at or below C every step passes, except new with trust above C; results are low."
+  -- "results are low"
+  abbrev pub lowResult : State → Option ℕ → Typed
+  lowResult t none = passes t
+  lowResult t (some r) = givesLow t r
+
+  -- "except new with trust above C": new is the step that names a cell shape
+  abbrev pub exceptHigh : Reference → Typed → Typed
+  exceptHigh toNothing x = x
+  exceptHigh (toCell k) x = x
+  exceptHigh (toBlock b) x = x
+  exceptHigh (toCellShape i) x = breaksUnless (not (isHighTrust c shape i)) x
+
+  -- "With P at or below C every step passes, except new with trust above C; results are low." "lower Q, at every P"
   unfoldable pub lowRule : State → Step → Typed
-  lowRule t (Put r n) = givesLow t r
-  lowRule t (Name r k) = givesLow t r
-  lowRule t (S.Code r b) = givesLow t r
-  lowRule t (Add r a b) = givesLow t r
-  lowRule t (New r i a) = breaksUnless (not (highTrust c shape i)) (givesLow t r)
-  lowRule t (Read r w) = givesLow t r
-  lowRule t (Write w a) = passes t
-  lowRule t (Relabel w o) = passes t
-  lowRule t (Lower q) = lowerRule c t q
-  lowRule t (Start b) = passes t
-  lowRule t (Exec w) = passes t
+  lowRule t p =
+      elim (partsOf p .lowers) [ some q ↦ lowerRule c t q | none ↦ exceptHigh (partsOf p .names) (lowResult t (partsOf p .gives)) ]
 
   -- P above C.
   -- "put, name, code: effect P." A number that the book does not have breaks the rule; refusal 6 has seen to it that none stands.
@@ -133,7 +137,7 @@ module _ (c : Label) (shape : ℕ → Shape) where
   -- effect. Result effect P."
   abbrev pub newRule : State → ℕ → ℕ → ℕ → Typed
   newRule t r i a =
-      breaksUnless (both (isCellShape c shape i) (either (not (highTrust c shape i)) (both (t .lowered) (holds t a i)))) (gives t r (CellOf i) (t .p))
+      breaksUnless (both (isCellShape c shape i) (either (not (isHighTrust c shape i)) (both (t .lowered) (holds t a i)))) (gives t r (CellOf i) (t .p))
 
   -- "read: w of low effect gives low; else w is a cell, and the result has its content shape and the smaller of S and P."
   abbrev pub readFrom : State → ℕ → ℕ → Typed
@@ -147,7 +151,7 @@ module _ (c : Label) (shape : ℕ → Shape) where
   abbrev pub writeRule : State → ℕ → ℕ → Typed
   writeRule t w a =
       onKnownCell (known c t w)
-      (λ i. stuckUnless (isMet (countedTrust c shape i) (t .p)) (breaksUnless (either (not (highTrust c shape i)) (holds t a i)) (passes t)))
+      (λ i. stuckUnless (isMet (countedTrust c shape i) (t .p)) (breaksUnless (either (not (isHighTrust c shape i)) (holds t a i)) (passes t)))
 
   -- "relabel to O: stuck if P is below S or O; else S is at most O."
   abbrev pub relabelRule : State → ℕ → Label → Typed

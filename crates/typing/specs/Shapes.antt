@@ -85,8 +85,8 @@ module _ (c : Label) (shape : ℕ → Shape) where
   fits (CellOf j) i = alike j i
 
   -- "trust above C"
-  abbrev pub highTrust : ℕ → Bool
-  highTrust i = isHigh (countedTrust i) c
+  abbrev pub isHighTrust : ℕ → Bool
+  isHighTrust i = isHigh (countedTrust i) c
 
 -- what is known of a declared value, by the declared cells' shapes and the blocks' bounds
 unfoldable pub knownValue : (ℕ → Option ℕ) → (ℕ → Option Label) → Value → Known
@@ -97,7 +97,7 @@ knownValue cell bound (CodeName n) = onSome (bound n) Unknown Code
 -- "A declared cell of trust above C needs label at least trust and a fitting value. Others need nothing."
 unfoldable pub declaredOk : View → Declared → Bool
 declaredOk B d =
-    if highTrust (B .c) (B .shape) (d .shape)
+    if isHighTrust (B .c) (B .shape) (d .shape)
     then both (isMet (countedTrust (B .c) (B .shape) (d .shape)) (d .label))
     (fits (B .c) (B .shape) (knownValue (B .cell) (B .bound) (d .value)) (contentOf (B .c) (B .shape) (d .shape)))
     else true

@@ -11,15 +11,15 @@ ghost use Rattle.typing.specs.Shapes.{declaredOk};
 ghost use Rattle.typing.specs.Asked.{tableView, knownIn};
 
 // What is known of a declared value.
-fn known_value(owners: &[u8], bounds: &[u8], v: Value) -> Known
-    ensures { λ r. ⌜ r ≡ knownIn (now (owners .entry)) (now (bounds .entry)) v ⌝ }
+fn known_value(shaped: &[u8], bounds: &[u8], v: Value) -> Known
+    ensures { λ r. ⌜ r ≡ knownIn (now (shaped .entry)) (now (bounds .entry)) v ⌝ }
 {
     match v {
         Value::Plain(_) => Known::Plain,
         Value::CellName(n) => {
             let k = n as usize;
-            if k < owners.len() {
-                return Known::CellOf(owners[k]);
+            if k < shaped.len() {
+                return Known::CellOf(shaped[k]);
             }
             Known::Unknown
         }
@@ -34,19 +34,19 @@ fn known_value(owners: &[u8], bounds: &[u8], v: Value) -> Known
 }
 
 // A declared cell meets its rule.
-pub fn is_declared_ok(table: &[u8], owners: &[u8], bounds: &[u8], c: Label, d: Declared) -> bool
-    requires { ⌜ Sound (shapeIn (now table)) ⌝ }
-    ensures { λ r. ⌜ r ≡ declaredOk (tableView c (now (table .entry)) (now (owners .entry)) (now (bounds .entry))) d ⌝ }
+pub fn is_declared_ok(shapes: &[u8], shaped: &[u8], bounds: &[u8], c: Label, d: Declared) -> bool
+    requires { ⌜ Sound (shapeIn (now shapes)) ⌝ }
+    ensures { λ r. ⌜ r ≡ declaredOk (tableView c (now (shapes .entry)) (now (shaped .entry)) (now (bounds .entry))) d ⌝ }
 {
     let i = d.shape;
     let label = d.label;
     let value = d.value;
-    if shapes::is_high(table, c, i) {
-        let trust = shapes::trust_of(table, c, i);
+    if shapes::is_high(shapes, c, i) {
+        let trust = shapes::trust_of(shapes, c, i);
         if trust.is_met(label) {
-            let known = known_value(owners, bounds, value);
-            let x = decode::shape_in(table, i);
-            return shapes::does_fit(table, c, known, x.content);
+            let known = known_value(shaped, bounds, value);
+            let x = decode::shape_in(shapes, i);
+            return shapes::does_fit(shapes, c, known, x.content);
         }
         return false;
     }

@@ -1,6 +1,6 @@
 // The typing rules: of a declared cell, and of a step.
-mod cells;
 mod declared;
+mod registers;
 mod rules;
 mod shapes;
 mod steps;

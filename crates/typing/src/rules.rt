@@ -1,130 +1,44 @@
-// The typing rules of the steps. A rule hands back what the step changes in the state, not the state: it is a tenth of the size.
+// The typing rules of the steps, at P above C; that of lower, at every P.
 use crate::Known;
-use crate::Register;
+use crate::KnownCell;
 use crate::State;
 use crate::Stepped;
+use crate::registers;
+use crate::shapes;
+use book::kind;
 use labels::Label;
 ghost use mathlib.Core.Path.{_≡_};
-ghost use Rattle.typing.specs.Rules.{passes, stuck, breaks, registerType, gives, givesLow, fresh, used, known, lowersTo, lowerRule, addable, addRule};
-ghost use Rattle.typing.specs.Asked.{told};
-
-pub fn register_of(s: State, r: u8) -> Register
-    ensures { λ x. ⌜ x ≡ registerType s r ⌝ }
-{
-    let i = r as usize;
-    let registers = s.registers;
-    if i < 8 {
-        return registers[i];
-    }
-    Register {
-        known: Known::Unknown,
-        effect: Label(0),
-    }
-}
-
-// A used effect: the smaller of effect and P.
-pub fn used_effect(s: State, r: u8) -> Label
-    ensures { λ x. ⌜ x ≡ used s r ⌝ }
-{
-    let x = register_of(s, r);
-    let effect = x.effect;
-    let p = s.p;
-    effect.lower_of(p)
-}
-
-// What is known of a register's shape: nothing if its effect is low.
-pub fn known_in(c: Label, s: State, r: u8) -> Known
-    ensures { λ x. ⌜ x ≡ known c s r ⌝ }
-{
-    let x = register_of(s, r);
-    let effect = x.effect;
-    if c.reaches(effect) {
-        return Known::Unknown;
-    }
-    let known = x.known;
-    known
-}
-
-// Nothing changes that typing sees.
-pub fn pass(s: State) -> Stepped
-    ensures { λ x. ⌜ told s x ≡ passes s ⌝ }
-{
-    Stepped::Passes
-}
-
-pub fn stop(s: State) -> Stepped
-    ensures { λ x. ⌜ told s x ≡ stuck ⌝ }
-{
-    Stepped::Stuck
-}
-
-pub fn fail(s: State) -> Stepped
-    ensures { λ x. ⌜ told s x ≡ breaks ⌝ }
-{
-    Stepped::Breaks
-}
-
-// Register r gets this known shape and effect.
-pub fn give(s: State, r: u8, known: Known, effect: Label) -> Stepped
-    ensures { λ x. ⌜ told s x ≡ gives s r known effect ⌝ }
-{
-    Stepped::Gives(
-        r,
-        Register {
-            known: known,
-            effect: effect,
-        },
-    )
-}
-
-pub fn give_low(s: State, r: u8) -> Stepped
-    ensures { λ x. ⌜ told s x ≡ givesLow s r ⌝ }
-{
-    give(s, r, Known::Unknown, Label(0))
-}
-
-impl State {
-    // The state at the start of a block.
-    pub fn fresh(bound: Label) -> State
-        ensures { λ x. ⌜ x ≡ fresh bound ⌝ }
-    {
-        let register = Register {
-            known: Known::Plain,
-            effect: bound,
-        };
-        State {
-            p: bound,
-            lowered: false,
-            registers: [register; 8],
-        }
-    }
-}
+ghost use lib.ListN.{getElem?};
+ghost use Rattle.book.specs.Outline.{shapeIn};
+ghost use Rattle.book.specs.Asked.{Sound};
+ghost use Rattle.typing.specs.Rules.{lowersTo, lowerRule, addable, addRule, known, holds, nameRule, codeRule, newRule, readFrom, readRule, writeRule, relabelRule, execRule, startRule};
+ghost use Rattle.typing.specs.Asked.{asLabel, told, cellOn};
 
 // P is the label from here on.
-fn lower_to(s: State, q: Label) -> Stepped
-    ensures { λ x. ⌜ told s x ≡ lowersTo s q ⌝ }
+fn lower_to(t: State, q: Label) -> Stepped
+    ensures { λ x. ⌜ told t x ≡ lowersTo t q ⌝ }
 {
     Stepped::Lowers(q)
 }
 
-pub fn lower_step(c: Label, s: State, q: Label) -> Stepped
-    ensures { λ x. ⌜ told s x ≡ lowerRule c s q ⌝ }
+pub fn lower_step(c: Label, t: State, q: Label) -> Stepped
+    ensures { λ x. ⌜ told t x ≡ lowerRule c t q ⌝ }
 {
-    let p = s.p;
+    let p = t.p;
     if p.reaches(q) {
-        return lower_to(s, q);
+        return lower_to(t, q);
     }
     if c.reaches(q) {
-        return lower_to(s, q);
+        return lower_to(t, q);
     }
-    stop(s)
+    registers::stop(t)
 }
 
 // An operand of add: low, or plain.
-fn is_addable(c: Label, s: State, a: u8) -> bool
-    ensures { λ x. ⌜ x ≡ addable c s a ⌝ }
+fn is_addable(c: Label, t: State, a: u8) -> bool
+    ensures { λ x. ⌜ x ≡ addable c t a ⌝ }
 {
-    let x = register_of(s, a);
+    let x = registers::register_of(t, a);
     let effect = x.effect;
     let known = x.known;
     if c.reaches(effect) {
@@ -138,16 +52,203 @@ fn is_addable(c: Label, s: State, a: u8) -> bool
     }
 }
 
-pub fn add_step(c: Label, s: State, r: u8, a: u8, b: u8) -> Stepped
-    ensures { λ x. ⌜ told s x ≡ addRule c s r a b ⌝ }
+pub fn add_step(c: Label, t: State, r: u8, a: u8, b: u8) -> Stepped
+    ensures { λ x. ⌜ told t x ≡ addRule c t r a b ⌝ }
 {
-    if is_addable(c, s, a) {
-        if is_addable(c, s, b) {
-            let u = used_effect(s, a);
-            let v = used_effect(s, b);
-            return give(s, r, Known::Plain, u.lower_of(v));
+    if is_addable(c, t, a) {
+        if is_addable(c, t, b) {
+            let u = registers::used_effect(t, a);
+            let v = registers::used_effect(t, b);
+            return registers::give(t, r, Known::Plain, u.lower_of(v));
         }
-        return fail(s);
+        return registers::fail(t);
     }
-    fail(s)
+    registers::fail(t)
+}
+
+pub fn name_step(shapes: &[u8], shaped: &[u8], c: Label, t: State, r: u8, k: u8) -> Stepped
+    ensures { λ x. ⌜ told t x ≡ nameRule c (shapeIn (now (shapes .entry))) t r (getElem? (now (shaped .entry)) k) ⌝ }
+{
+    let n = k as usize;
+    if n < shaped.len() {
+        let i = shaped[n];
+        let x = decode::shape_in(shapes, i);
+        if x.kind == kind::CELL_SHAPE {
+            let p = t.p;
+            return registers::give(t, r, Known::CellOf(i), p);
+        }
+        return registers::fail(t);
+    }
+    registers::fail(t)
+}
+
+pub fn code_step(bounds: &[u8], t: State, r: u8, b: u8) -> Stepped
+    ensures { λ x. ⌜ told t x ≡ codeRule t r (asLabel (getElem? (now (bounds .entry)) b)) ⌝ }
+{
+    let n = b as usize;
+    if n < bounds.len() {
+        let bound = Label(bounds[n]);
+        let p = t.p;
+        return registers::give(t, r, Known::Code(bound), p);
+    }
+    registers::fail(t)
+}
+
+pub fn start_step(bounds: &[u8], t: State, b: u8) -> Stepped
+    ensures { λ x. ⌜ told t x ≡ startRule t (asLabel (getElem? (now (bounds .entry)) b)) ⌝ }
+{
+    let n = b as usize;
+    if n < bounds.len() {
+        let bound = Label(bounds[n]);
+        let p = t.p;
+        if bound.reaches(p) {
+            return registers::pass(t);
+        }
+        return registers::fail(t);
+    }
+    registers::fail(t)
+}
+
+// Register a fits the content of shape i, and its used effect is at least the trust.
+fn does_hold(shapes: &[u8], c: Label, t: State, a: u8, i: u8) -> bool
+    requires { ⌜ Sound (shapeIn (now shapes)) ⌝ }
+    ensures { λ x. ⌜ x ≡ holds c (shapeIn (now (shapes .entry))) t a i ⌝ }
+{
+    let x = decode::shape_in(shapes, i);
+    let known = registers::known_in(c, t, a);
+    if shapes::does_fit(shapes, c, known, x.content) {
+        let trust = shapes::trust_of(shapes, c, i);
+        let effect = registers::used_effect(t, a);
+        return trust.is_met(effect);
+    }
+    false
+}
+
+pub fn new_step(shapes: &[u8], c: Label, t: State, r: u8, i: u8, a: u8) -> Stepped
+    requires { ⌜ Sound (shapeIn (now shapes)) ⌝ }
+    ensures { λ x. ⌜ told t x ≡ newRule c (shapeIn (now (shapes .entry))) t r i a ⌝ }
+{
+    let p = t.p;
+    let x = decode::shape_in(shapes, i);
+    if x.kind == kind::CELL_SHAPE {
+        if shapes::is_high(shapes, c, i) {
+            if t.lowered {
+                if does_hold(shapes, c, t, a, i) {
+                    return registers::give(t, r, Known::CellOf(i), p);
+                }
+                return registers::fail(t);
+            }
+            return registers::fail(t);
+        }
+        return registers::give(t, r, Known::CellOf(i), p);
+    }
+    registers::fail(t)
+}
+
+// The shape of a register that is a cell of effect above C.
+fn cell_in(c: Label, t: State, w: u8) -> KnownCell
+    ensures { λ x. ⌜ x ≡ cellOn (known c t w) ⌝ }
+{
+    let known = registers::known_in(c, t, w);
+    match known {
+        Known::Unknown => KnownCell::No,
+        Known::Plain => KnownCell::No,
+        Known::Code(_) => KnownCell::No,
+        Known::CellOf(i) => KnownCell::Of(i),
+    }
+}
+
+// Register r gets what a cell of shape i holds.
+fn read_cell(shapes: &[u8], c: Label, t: State, r: u8, i: u8) -> Stepped
+    ensures { λ x. ⌜ told t x ≡ readFrom c (shapeIn (now (shapes .entry))) t r i ⌝ }
+{
+    let y = decode::shape_in(shapes, i);
+    let known = shapes::known_of(shapes, c, y.content);
+    let trust = shapes::trust_of(shapes, c, i);
+    let p = t.p;
+    registers::give(t, r, known, trust.capped(p))
+}
+
+pub fn read_step(shapes: &[u8], c: Label, t: State, r: u8, w: u8) -> Stepped
+    ensures { λ x. ⌜ told t x ≡ readRule c (shapeIn (now (shapes .entry))) t r w ⌝ }
+{
+    let x = registers::register_of(t, w);
+    let effect = x.effect;
+    if c.reaches(effect) {
+        return registers::give_low(t, r);
+    }
+    match cell_in(c, t, w) {
+        KnownCell::No => registers::fail(t),
+        KnownCell::Of(i) => read_cell(shapes, c, t, r, i),
+    }
+}
+
+pub fn write_step(shapes: &[u8], c: Label, t: State, w: u8, a: u8) -> Stepped
+    requires { ⌜ Sound (shapeIn (now shapes)) ⌝ }
+    ensures { λ x. ⌜ told t x ≡ writeRule c (shapeIn (now (shapes .entry))) t w a ⌝ }
+{
+    match cell_in(c, t, w) {
+        KnownCell::No => registers::fail(t),
+        KnownCell::Of(i) => {
+            let trust = shapes::trust_of(shapes, c, i);
+            let p = t.p;
+            if trust.is_met(p) {
+                if shapes::is_high(shapes, c, i) {
+                    if does_hold(shapes, c, t, a, i) {
+                        return registers::pass(t);
+                    }
+                    return registers::fail(t);
+                }
+                return registers::pass(t);
+            }
+            registers::stop(t)
+        }
+    }
+}
+
+pub fn relabel_step(shapes: &[u8], c: Label, t: State, w: u8, o: Label) -> Stepped
+    ensures { λ x. ⌜ told t x ≡ relabelRule c (shapeIn (now (shapes .entry))) t w o ⌝ }
+{
+    match cell_in(c, t, w) {
+        KnownCell::No => registers::fail(t),
+        KnownCell::Of(i) => {
+            let trust = shapes::trust_of(shapes, c, i);
+            let p = t.p;
+            if trust.is_met(p) {
+                if p.reaches(o) {
+                    if trust.is_met(o) {
+                        return registers::pass(t);
+                    }
+                    return registers::fail(t);
+                }
+                return registers::stop(t);
+            }
+            registers::stop(t)
+        }
+    }
+}
+
+pub fn exec_step(shapes: &[u8], c: Label, t: State, w: u8) -> Stepped
+    ensures { λ x. ⌜ told t x ≡ execRule c (shapeIn (now (shapes .entry))) t w ⌝ }
+{
+    match cell_in(c, t, w) {
+        KnownCell::No => registers::fail(t),
+        KnownCell::Of(i) => {
+            let y = decode::shape_in(shapes, i);
+            let z = decode::shape_in(shapes, y.content);
+            let trust = shapes::trust_of(shapes, c, i);
+            let bound = z.bound;
+            let p = t.p;
+            if z.kind == kind::CODE_SHAPE {
+                if bound.reaches(p) {
+                    if trust.covers(p) {
+                        return registers::pass(t);
+                    }
+                    return registers::fail(t);
+                }
+                return registers::fail(t);
+            }
+            registers::fail(t)
+        }
+    }
 }

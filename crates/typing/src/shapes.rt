@@ -7,11 +7,11 @@ use labels::Trust;
 ghost use mathlib.Core.Path.{_≡_};
 ghost use Rattle.book.specs.Outline.{shapeIn};
 ghost use Rattle.book.specs.Asked.{Sound};
-ghost use Rattle.typing.specs.Shapes.{countedTrust, highTrust, alike, knownOf, fits};
-ghost use Rattle.typing.specs.Asked.{plainShape};
+ghost use Rattle.typing.specs.Shapes.{countedTrust, isHighTrust, alike, knownOf, fits};
+ghost use Rattle.typing.specs.Asked.{isPlain};
 
 fn is_plain(x: Shape) -> bool
-    ensures { λ r. ⌜ r ≡ plainShape x ⌝ }
+    ensures { λ r. ⌜ r ≡ isPlain x ⌝ }
 {
     if x.kind == kind::CODE_SHAPE {
         return false;
@@ -30,7 +30,7 @@ pub fn trust_of(shapes: &[u8], c: Label, i: u8) -> Trust
 
 // The trust of a shape is above C.
 pub fn is_high(shapes: &[u8], c: Label, i: u8) -> bool
-    ensures { λ r. ⌜ r ≡ highTrust c (shapeIn (now (shapes .entry))) i ⌝ }
+    ensures { λ r. ⌜ r ≡ isHighTrust c (shapeIn (now (shapes .entry))) i ⌝ }
 {
     let trust = trust_of(shapes, c, i);
     trust.is_high(c)

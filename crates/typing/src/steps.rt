@@ -2,7 +2,7 @@
 use crate::Known;
 use crate::State;
 use crate::Stepped;
-use crate::cells;
+use crate::registers;
 use crate::rules;
 use crate::shapes;
 use book::Step;
@@ -14,60 +14,67 @@ ghost use Rattle.typing.specs.Rules.{lowRule, highRule, stepRule};
 ghost use Rattle.typing.specs.Asked.{tableView, told};
 
 // A step at P at or below C.
-fn type_low(table: &[u8], c: Label, s: State, p: Step) -> Stepped
-    ensures { λ x. ⌜ told s x ≡ lowRule c (shapeIn (now (table .entry))) s p ⌝ }
+fn type_low(shapes: &[u8], c: Label, t: State, p: Step) -> Stepped
+    ensures { λ x. ⌜ told t x ≡ lowRule c (shapeIn (now (shapes .entry))) t p ⌝ }
 {
     match p {
-        Step::Put(r, _) => rules::give_low(s, r),
-        Step::Name(r, _) => rules::give_low(s, r),
-        Step::Code(r, _) => rules::give_low(s, r),
-        Step::Add(r, _, _) => rules::give_low(s, r),
+        Step::Put(r, _) => registers::give_low(t, r),
+        Step::Name(r, _) => registers::give_low(t, r),
+        Step::Code(r, _) => registers::give_low(t, r),
+        Step::Add(r, _, _) => registers::give_low(t, r),
         Step::New(r, i, _) => {
-            if shapes::is_high(table, c, i) {
-                return rules::fail(s);
+            if shapes::is_high(shapes, c, i) {
+                return registers::fail(t);
             }
-            rules::give_low(s, r)
+            registers::give_low(t, r)
         }
-        Step::Read(r, _) => rules::give_low(s, r),
-        Step::Write(_, _) => rules::pass(s),
-        Step::Relabel(_, _) => rules::pass(s),
-        Step::Lower(q) => rules::lower_step(c, s, q),
-        Step::Start(_) => rules::pass(s),
-        Step::Exec(_) => rules::pass(s),
+        Step::Read(r, _) => registers::give_low(t, r),
+        Step::Write(_, _) => registers::pass(t),
+        Step::Relabel(_, _) => registers::pass(t),
+        Step::Lower(q) => rules::lower_step(c, t, q),
+        Step::Start(_) => registers::pass(t),
+        Step::Exec(_) => registers::pass(t),
     }
 }
 
 // A step at P above C.
-fn type_high(table: &[u8], owners: &[u8], bounds: &[u8], c: Label, s: State, p: Step) -> Stepped
-    requires { ⌜ Sound (shapeIn (now table)) ⌝ }
-    ensures { λ x. ⌜ told s x ≡ highRule (tableView c (now (table .entry)) (now (owners .entry)) (now (bounds .entry))) s p ⌝ }
+fn type_high(shapes: &[u8], shaped: &[u8], bounds: &[u8], c: Label, t: State, p: Step) -> Stepped
+    requires { ⌜ Sound (shapeIn (now shapes)) ⌝ }
+    ensures { λ x. ⌜ told t x ≡ highRule (tableView c (now (shapes .entry)) (now (shaped .entry)) (now (bounds .entry))) t p ⌝ }
 {
     match p {
         Step::Put(r, _) => {
-            let effect = s.p;
-            rules::give(s, r, Known::Plain, effect)
+            let effect = t.p;
+            registers::give(t, r, Known::Plain, effect)
         }
-        Step::Name(r, k) => cells::name_step(table, owners, c, s, r, k),
-        Step::Code(r, b) => cells::code_step(bounds, s, r, b),
-        Step::Add(r, a, b) => rules::add_step(c, s, r, a, b),
-        Step::New(r, i, a) => cells::new_step(table, c, s, r, i, a),
-        Step::Read(r, w) => cells::read_step(table, c, s, r, w),
-        Step::Write(w, a) => cells::write_step(table, c, s, w, a),
-        Step::Relabel(w, o) => cells::relabel_step(table, c, s, w, o),
-        Step::Lower(q) => rules::lower_step(c, s, q),
-        Step::Start(b) => cells::start_step(bounds, s, b),
-        Step::Exec(w) => cells::exec_step(table, c, s, w),
+        Step::Name(r, k) => rules::name_step(shapes, shaped, c, t, r, k),
+        Step::Code(r, b) => rules::code_step(bounds, t, r, b),
+        Step::Add(r, a, b) => rules::add_step(c, t, r, a, b),
+        Step::New(r, i, a) => rules::new_step(shapes, c, t, r, i, a),
+        Step::Read(r, w) => rules::read_step(shapes, c, t, r, w),
+        Step::Write(w, a) => rules::write_step(shapes, c, t, w, a),
+        Step::Relabel(w, o) => rules::relabel_step(shapes, c, t, w, o),
+        Step::Lower(q) => rules::lower_step(c, t, q),
+        Step::Start(b) => rules::start_step(bounds, t, b),
+        Step::Exec(w) => rules::exec_step(shapes, c, t, w),
     }
 }
 
 // The typing rule of a step.
-pub fn type_step(table: &[u8], owners: &[u8], bounds: &[u8], c: Label, s: State, p: Step) -> Stepped
-    requires { ⌜ Sound (shapeIn (now table)) ⌝ }
-    ensures { λ x. ⌜ told s x ≡ stepRule (tableView c (now (table .entry)) (now (owners .entry)) (now (bounds .entry))) s p ⌝ }
+pub fn type_step(
+    shapes: &[u8],
+    shaped: &[u8],
+    bounds: &[u8],
+    c: Label,
+    t: State,
+    p: Step,
+) -> Stepped
+    requires { ⌜ Sound (shapeIn (now shapes)) ⌝ }
+    ensures { λ x. ⌜ told t x ≡ stepRule (tableView c (now (shapes .entry)) (now (shaped .entry)) (now (bounds .entry))) t p ⌝ }
 {
-    let label = s.p;
+    let label = t.p;
     if c.reaches(label) {
-        return type_low(table, c, s, p);
+        return type_low(shapes, c, t, p);
     }
-    type_high(table, owners, bounds, c, s, p)
+    type_high(shapes, shaped, bounds, c, t, p)
 }

@@ -1,7 +1,7 @@
 -- Laws of the exported calls: what a callee gave stands as a variable with its equation.
---     checks, founds          what each call answers
---     check-fits, found-fits  its numbers have 32 bits
---     fits                    a number below 2 ^ 32 has 32 bits
+--     checks, founds            what each call answers
+--     check-fits, found-fits    its numbers have 32 bits
+--     answers-fit               a number below 2 ^ 32 has 32 bits
 -- Assumes nothing.
 use mathlib.Core.Path.{_≡_}
 use mathlib.Core.List.{List}
@@ -21,8 +21,8 @@ use Rattle.typing.specs.Verdict.{verdict}
 use Rattle.typing.proofs.Bounds.{verdict-place, verdict-counts}
 use Rattle.xemdulba.specs.Calls.{checked, foundBy, found}
 
-pub fits : (n : ℕ) → n < 4294967296 → Fits w32 n
-fits n h = fits-under w32 n 4294967296 h tt
+pub answers-fit : (n : ℕ) → n < 4294967296 → Fits w32 n
+answers-fit n h = fits-under w32 n 4294967296 h tt
 
 -- v is the verdict
 module _ (s : List ℕ) (v : Verdict) (ev : v ≡ verdict s) where
@@ -32,7 +32,7 @@ module _ (s : List ℕ) (v : Verdict) (ev : v ≡ verdict s) where
   check-refused n o e = simp (← ev, e)
 
   pub check-place : (n o : ℕ) → v ≡ Refused n o → Fits w32 o
-  check-place n o e = fits o (omega (arith, verdict-place s v ev n o e))
+  check-place n o e = answers-fit o (omega (arith, verdict-place s v ev n o e))
 
   module _ (i k b p : ℕ) (e : v ≡ Accepted i k b p) where
     pub check-accepted : record { refusal = 0; place = 0; shapes = i; cells = k; blocks = b; steps = p } ≡ checked (verdict s)
@@ -40,16 +40,16 @@ module _ (s : List ℕ) (v : Verdict) (ev : v ≡ verdict s) where
     check-accepted = simp (← ev, e)
 
     pub check-shapes : Fits w32 i
-    check-shapes = fits i (omega (arith, verdict-counts s v ev i k b p e))
+    check-shapes = answers-fit i (omega (arith, verdict-counts s v ev i k b p e))
 
     pub check-cells : Fits w32 k
-    check-cells = fits k (omega (arith, verdict-counts s v ev i k b p e))
+    check-cells = answers-fit k (omega (arith, verdict-counts s v ev i k b p e))
 
     pub check-blocks : Fits w32 b
-    check-blocks = fits b (omega (arith, verdict-counts s v ev i k b p e))
+    check-blocks = answers-fit b (omega (arith, verdict-counts s v ev i k b p e))
 
     pub check-steps : Fits w32 p
-    check-steps = fits p (omega (arith, verdict-counts s v ev i k b p e))
+    check-steps = answers-fit p (omega (arith, verdict-counts s v ev i k b p e))
 
 pub ruleset checks = (check-refused, check-accepted)
 
@@ -62,7 +62,7 @@ module _ (s : List ℕ) (i : ℕ) (f : Found) (ef : f ≡ foundBlock s i) where
   found-refused n o e = simp (← ef, e)
 
   pub found-at : (n o : ℕ) → f .refusal ≡ R.Refused n o → Fits w32 o
-  found-at n o e = fits o (omega (arith, found-place s i f ef n o e))
+  found-at n o e = answers-fit o (omega (arith, found-place s i f ef n o e))
 
   module _ (e : f .refusal ≡ Passed) where
     pub found-there : record { refusal = 0; place = 0; start = f .start; length = f .length } ≡ found (foundBlock s i)
@@ -70,10 +70,10 @@ module _ (s : List ℕ) (i : ℕ) (f : Found) (ef : f ≡ foundBlock s i) where
     found-there = simp (← ef, e)
 
     pub found-start : Fits w32 (f .start)
-    found-start = fits (f .start) (omega (arith, found-short s i f ef e))
+    found-start = answers-fit (f .start) (omega (arith, found-short s i f ef e))
 
     pub found-length : Fits w32 (f .length)
-    found-length = fits (f .length) (omega (arith, found-short s i f ef e))
+    found-length = answers-fit (f .length) (omega (arith, found-short s i f ef e))
 
 pub ruleset founds = (found-refused, found-there)
 

@@ -11,6 +11,7 @@ use lib.Dec.{ltb, eqb}
 use lib.ListN.{length}
 use mir.Val.{Fits}
 use mir.Syntax.{w32}
+use Rattle.labels.proofs.Impossible.{impossible}
 use Rattle.book.specs.declared.Refusal.{Refusal}
 use Rattle.book.specs.declared.Refusal.the-variants.{Passed, Refused}
 use Rattle.book.specs.Control.{both}
@@ -20,14 +21,14 @@ use Rattle.events.specs.Bytes.{eventsIn, unplayable}
 use Rattle.events.proofs.Bounds.{unplayed-short}
 use Rattle.interpreter.specs.Run.{Run, orNext, untabled, unanswered, refusalBy, unrunnable, ranOf, ran}
 use Rattle.xemdulba.specs.Calls.{Call, ranBy, called}
-use Rattle.xemdulba.proofs.Answers.{fits}
+use Rattle.xemdulba.proofs.Answers.{answers-fit}
 
 -- a refusal is at most at l
 abbrev Short : ℕ → Refusal → Type 0
 Short l f = (n o : ℕ) → f ≡ Refused n o → o ≤ l
 
 passed-short : (l : ℕ) → Short l Passed
-passed-short l n o e = let z : _≡_ {A = ℕ} 0 1 = cc in absurd (omega arith)
+passed-short l n o e = impossible cc
 
 start-short : (l k : ℕ) → Short l (Refused k 0)
 start-short l k n o e = let z : 0 ≡ o = cc in omega arith
@@ -81,7 +82,7 @@ module _ (b list cells jobs room : List ℕ) (f : Refusal) (n m : ℕ) (cells′
   call-place k o ef =
       let x : f ≡ unrunnable b list (length cells) (length jobs) (length room)
       = ap (λ (x : Run). x .refusal) e ∙ refusal-is (unrunnable b list (length cells) (length jobs) (length room)) b list cells jobs room in
-      fits o (omega (arith, run-short b list (length cells) (length jobs) (length room) k o (sym x ∙ ef)))
+      answers-fit o (omega (arith, run-short b list (length cells) (length jobs) (length room) k o (sym x ∙ ef)))
 
   pub call-done : f ≡ Passed
       → _≡_ {A = Call} (record { result = record { refusal = 0; place = 0; cells = n; jobs = m }; cells = cells′; jobs = jobs′; answered = room′ }) (called (ran b list cells jobs room))

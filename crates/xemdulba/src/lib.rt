@@ -117,7 +117,8 @@ pub extern "C" fn xemdulba_run(
     jobs: &mut [u8],
     answers: &mut [u8],
 ) -> Ran
-    ensures { λ r. ⌜ _≡_ {A = Call} (record { result = r; cells = now (cells .exit); jobs = now (jobs .exit); answered = now (answers .exit) }) (called (ran (now (book .entry)) (now (list .entry)) (now (cells .entry)) (now (jobs .entry)) (now (answers .entry)))) ⌝ }
+    ensures { λ r. ⌜ _≡_ {A = Call} (record { result = r; cells = now (cells .exit); jobs = now (jobs .exit); answered = now (answers .exit) })
+        (called (ran (now (book .entry)) (now (list .entry)) (now (cells .entry)) (now (jobs .entry)) (now (answers .entry)))) ⌝ }
 {
     let run = running::run(book, list, cells, jobs, answers);
     let refusal = run.refusal;

@@ -4,35 +4,13 @@ use Rattle.book.proofs.Decoded.{found}
 use Rattle.decode.proofs.step_end.Statement.{statement}
 use Rattle.decode.proofs.step_end.Tie as tie
 
-shared-slice-read-k : tie.Need-shared-slice-read-k
-shared-slice-read-k c = search needs
-
-group-of-requires : tie.Need-group-of-requires
-group-of-requires c κs = search needs
-
-returns : tie.Need-returns
-returns c = search found
-
-next-record-requires : tie.Need-next-record-requires
-next-record-requires c κs = search needs
-
-returns-2 : tie.Need-returns-2
-returns-2 c = search found
-
-returns-3 : tie.Need-returns-3
-returns-3 c = search found
-
-returns-4 : tie.Need-returns-4
-returns-4 c = search found
-
 pub step-end-spec : {M : Type 1} → statement M
 step-end-spec =
     tie.close
     (tie.spec
-    shared-slice-read-k
-    group-of-requires
-    returns
-    next-record-requires
-    returns-2
-    returns-3
-    returns-4)
+    (λ c. search needs) (λ c κs. search needs)
+    (λ c. search found)  -- records::group_of(k) != group::STEPS
+    (λ c κs. search needs)
+    (λ c. search found)  -- stretch.len() < end
+    (λ c. search found)  -- none of these
+    (λ c. search found))  -- not (offset < stretch.len())

@@ -3,14 +3,9 @@ use Rattle.book.proofs.Decoded.{values}
 use Rattle.decode.proofs.value_of.Tie as tie
 use Rattle.decode.proofs.value_of.Statement.{statement}
 
-returns : tie.Need-returns
-returns c = search values
-
-returns-2 : tie.Need-returns-2
-returns-2 c = search values
-
-returns-3 : tie.Need-returns-3
-returns-3 c = search values
-
 pub value-of-spec : {M : Type 1} → statement M
-value-of-spec = tie.close (tie.spec returns returns-2 returns-3)
+value-of-spec = tie.close
+    (tie.spec
+    (λ c. search values)  -- kind == value_kind::PLAIN
+    (λ c. search values)  -- kind == value_kind::CELL
+    (λ c. search values))  -- none of these

@@ -1,4 +1,4 @@
--- `scan` meets its contract. Assumes nothing.
+-- `scan` meets its contract. The events behind are whole, and their number is the count. Assumes nothing.
 use Prim.Native.Nat.{_-_}
 use lib.ListN.{length}
 use borrow.Author.Needs.{needs}
@@ -12,43 +12,6 @@ Inv-loop list o₀ n₀ o n = Scanning list o n
 abbrev μ-loop : tie.MeasureT-loop
 μ-loop list o₀ n₀ o n = length list - o
 
-returns : tie.Need-returns Inv-loop μ-loop
-returns c = search scans
-
-loop-holds : tie.Need-loop-holds Inv-loop μ-loop
-loop-holds c = search (scans, needs)
-
-returns-2 : tie.Need-returns-2 Inv-loop μ-loop
-returns-2 c = search scans
-
-pass-steps-requires-2 : tie.Need-pass-steps-requires-2 Inv-loop μ-loop
-pass-steps-requires-2 c κs =
-    let l = c .before .before .before in
-    turn-room _ _ _ (l .before .loop .inv) _ (c .before .before .is-cut .ensures) (l .loop-test .taken) (c .before .if2 .left) _ (c .next-event .ensures)
-
-add-n : tie.Need-add-n Inv-loop μ-loop
-add-n c =
-    let l = c .before .before .before .before in
-    let f = turn-few _ _ _ (l .before .loop .inv) _ (c .before .before .before .is-cut .ensures) (l .loop-test .taken)
-    (c .before .before .if2 .left) _ (c .before .next-event .ensures) _ _ (c .pass-steps2 .ensures) in
-    search needs
-
-add-n-2 : tie.Need-add-n-2 Inv-loop μ-loop
-add-n-2 c =
-    let l = c .before .before .before .before .before in
-    let f = turn-few _ _ _ (l .before .loop .inv) _ (c .before .before .before .before .is-cut .ensures) (l .loop-test .taken)
-    (c .before .before .before .if2 .left) _ (c .before .before .next-event .ensures) _ _ (c .before .pass-steps2 .ensures) in
-    search needs
-
-loop-less : tie.Need-loop-less Inv-loop μ-loop
-loop-less c = search scans
-
-loop-again : tie.Need-loop-again Inv-loop μ-loop
-loop-again c = search scans
-
-returns-3 : tie.Need-returns-3 Inv-loop μ-loop
-returns-3 c = search scans
-
 pub scan-spec : {M : Type 1} → statement M
 scan-spec =
     tie.close
@@ -56,16 +19,25 @@ scan-spec =
     Inv-loop
     μ-loop
     (λ c κs. search needs)
-    returns
+    (λ c. search scans)  -- 65536 < list.len()
     (λ c κs. search needs)
-    loop-holds
+    (λ c. search (scans, needs))  -- the loop begins
+    (λ c κs. search needs) (λ c κs. search needs)
+    (λ c. search scans)  -- is_cut(list, o)
     (λ c κs. search needs)
-    (λ c κs. search needs)
-    returns-2
-    (λ c κs. search needs)
-    pass-steps-requires-2
-    add-n
-    add-n-2
-    loop-less
-    loop-again
-    returns-3)
+    (λ c κs.
+    let l = c .before .before .before in
+    turn-room _ _ _ (l .before .loop .inv) _ (c .before .before .is-cut .ensures) (l .loop-test .taken) (c .before .if2 .left) _ (c .next-event .ensures))
+    (λ c.
+    let l = c .before .before .before .before in
+    let f = turn-few _ _ _ (l .before .loop .inv) _ (c .before .before .before .is-cut .ensures) (l .loop-test .taken)
+    (c .before .before .if2 .left) _ (c .before .next-event .ensures) _ _ (c .pass-steps2 .ensures) in
+    search needs)
+    (λ c.
+    let l = c .before .before .before .before .before in
+    let f = turn-few _ _ _ (l .before .loop .inv) _ (c .before .before .before .before .is-cut .ensures) (l .loop-test .taken)
+    (c .before .before .before .if2 .left) _ (c .before .before .next-event .ensures) _ _ (c .before .pass-steps2 .ensures) in
+    search needs)
+    (λ c. search scans)  -- the measure falls
+    (λ c. search scans)  -- the invariant holds again
+    (λ c. search scans))  -- at the end

@@ -25,10 +25,7 @@ play-spec =
     μ-loop2
     -- the tables at the start
     (λ c κs. open-listed _ _ _ _ _ _ _ _ _ _ (c .before .before .before .before .before .before .before .before .pre))
-    (λ c κs. search needs)
-    (λ c κs. search needs)
-    (λ c κs. search needs)
-    (λ c. search needs)
+    (λ c κs. search needs) (λ c κs. search needs) (λ c κs. search needs) (λ c. search needs)
     (λ c.
     playing-start _ _ _ _ _ _ _ _ _ _ (c .before .before .before .before .before .before .before .before .before .before .before .before .pre) _ _ _ _
     (search needs) (c .before .before .before .open-cells .ensures) (c .before .start-of .ensures)
@@ -38,8 +35,7 @@ play-spec =
     (λ c. search needs)
     -- a step: the job, and where its next step stands
     (λ c. let l = c .before .before in let f = playing-off (l .before .loop .inv) (l .loop-test .taken) in search needs)
-    (λ c κs. search needs)
-    (λ c. search needs)
+    (λ c κs. search needs) (λ c. search needs)
     (λ c. let l = c .before .before .before in let f = playing-off (l .before .loop .inv) (l .loop-test .taken) in search needs)
     (λ c. let l = c .before .before .before .before in entry-fits _ (playing-entry (l .before .loop .inv) _ (c .if2 .taken)))
     (λ c. let l = c .before .before .before .before in let f = playing-entry (l .before .loop .inv) _ (c .if2 .taken) in search needs)
@@ -68,10 +64,7 @@ play-spec =
     let f = playing-entry (l .before .loop .inv) _ (c .before .before .before .if2 .taken) in
     search needs)
     (λ c κs. step-stands _ _ _ (c .before .before .before .before .step-end .ensures) (c .before .before .before .if3 .left))
-    (λ c. search needs)
-    (λ c κs. search needs)
-    (λ c. search needs)
-    (λ c. search needs)
+    (λ c. search needs) (λ c κs. search needs) (λ c. search needs) (λ c. search needs)
     -- new: done
     (λ c κs.
     let s = stepping (c .before) .known in
@@ -142,8 +135,7 @@ play-spec =
     let s = stepping (c .before .before .before .before .before .before .before .before) .known in
     let f = playing-entry (s .w) _ (s .r) in
     search needs)
-    (λ c. search needs)
-    (λ c. search needs)
+    (λ c. search needs) (λ c. search needs)
     (λ c.
     let s = stepping (c .before .before .before .before .before .before .before .before) .known in
     let f = playing-fits (s .w) (s .h) in
@@ -204,8 +196,7 @@ play-spec =
     let s = stepping (c .before .before .before .before .before .before .before .before .before) .known in
     let f = playing-entry (s .w) _ (s .r) in
     search needs)
-    (λ c κs. search needs)
-    (λ c κs. search needs)
+    (λ c κs. search needs) (λ c κs. search needs)
     (λ c.
     let s = stepping (c .before .before .before .before .before .before .before .before .before .before .before) .known in
     let f = step-free s _ _ refl _ _ (c .before .before .before .before .before .before .launch .ensures) _ _ _ (c .before .before .before .before .x5 .given .1) in
@@ -245,15 +236,8 @@ play-spec =
     let l = c .before .before .before .before in
     playing-past (l .before .loop .inv) (l .loop-test .taken) (c .before .before .if1 .taken) _ (c .before .byte .ensures) (c .if2 .left))
     -- an outsider's event: its cell, what it does, and the answer
-    (λ c κs. search needs)
-    (λ c κs. search needs)
-    (λ c κs. search needs)
-    (λ c κs. search needs)
-    (λ c κs. search needs)
-    (λ c. search needs)
-    (λ c. search needs)
-    (λ c κs. search needs)
-    (λ c κs. search needs)
+    (λ c κs. search needs) (λ c κs. search needs) (λ c κs. search needs) (λ c κs. search needs) (λ c κs. search needs)
+    (λ c. search needs) (λ c. search needs) (λ c κs. search needs) (λ c κs. search needs)
     (λ c.
     let l = c .before .before .before .before .before .before .before .before .before .before .before in
     let f = playing-fits (l .before .loop .inv) (l .loop-test .taken) in
@@ -275,9 +259,7 @@ play-spec =
     let a = acting (c .before .before .before .before) .known in
     acting-lower a _ _ refl _ (c .before .before .before .act-outside .ensures) _ (c .before .before .answer-of .ensures) _ _ (c .enum-told3 .given .1))
     -- it stores
-    (λ c. search needs)
-    (λ c. search needs)
-    (λ c. search needs)
+    (λ c. search needs) (λ c. search needs) (λ c. search needs)
     (λ c. let s = acting (c .before .before .before .before .before) .known in playing-falls (s .w) (s .h) _ (s .ep))
     (λ c.
     let a = acting (c .before .before .before .before .before) .known in
@@ -306,9 +288,7 @@ play-spec =
     acting-create a _ _ refl _ (c .before .before .before .before .act-outside .ensures) _ (c .before .before .before .answer-of .ensures) _ _
     (c .before .x7 .given .1))
     -- it starts a job
-    (λ c. search needs)
-    (λ c κs. search needs)
-    (λ c κs. search needs)
+    (λ c. search needs) (λ c κs. search needs) (λ c κs. search needs)
     (λ c.
     let a = acting (c .before .before .before .before .before .before .before) .known in
     let f = acting-free a _ _ refl _ (c .before .before .before .before .before .before .act-outside .ensures) _
@@ -348,21 +328,15 @@ play-spec =
     (λ c.
     let f = playing-begun (c .before .before .before .before .before .loop .inv) (c .before .before .before .before .loop-test .left) in
     jobs-start _ _ _ (f .0) (search needs) (f .1) (f .2))
-    (λ c. search needs)
-    (λ c. search needs)
+    (λ c. search needs) (λ c. search needs)
     (λ c κs.
     let f = jobs-room _ _ _ _ (c .before .before .before .loop2 .inv) (c .before .before .loop2-test .taken) in
     (jobs-narrow _ _ _ _ (c .before .before .before .loop2 .inv) _ (c .before .before .loop2-test .taken), f .0, f .1))
-    (λ c. search needs)
-    (λ c. search needs)
+    (λ c. search needs) (λ c. search needs)
     (λ c.
     jobs-on _ _ _ _ (c .before .before .before .before .before .before .loop2 .inv) _ _ (c .before .before .before .before .before .loop2-test .taken)
     (c .before .before .save-job .ensures) (search needs))
-    (λ c. search needs)
-    (λ c κs. search needs)
-    (λ c. search needs)
-    (λ c. search needs)
-    (λ c. search needs)
+    (λ c. search needs) (λ c κs. search needs) (λ c. search needs) (λ c. search needs) (λ c. search needs)
     (λ c.
     let w = c .before .before .before .before .before .before .before .before .before .before .before .loop .inv in
     let saved = jobs-end _ _ _ _ (c .before .before .before .before .before .loop2 .inv) _ (c .before .before .before .before .loop2-test .left) (c .before .before .clear-from .ensures) in (

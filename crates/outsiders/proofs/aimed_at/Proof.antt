@@ -5,46 +5,16 @@ use Rattle.outsiders.proofs.Such.{aim-is}
 use Rattle.outsiders.proofs.aimed_at.Statement.{statement}
 use Rattle.outsiders.proofs.aimed_at.Tie as tie
 
-returns : tie.Need-returns
-unfolding aimedAt
-returns c = search (aim-is, needs)
-
-returns-2 : tie.Need-returns-2
-unfolding aimedAt
-returns-2 c = search (aim-is, needs)
-
-returns-3 : tie.Need-returns-3
-unfolding aimedAt
-returns-3 c = search (aim-is, needs)
-
-returns-4 : tie.Need-returns-4
-unfolding aimedAt
-returns-4 c = search (aim-is, needs)
-
-returns-5 : tie.Need-returns-5
-unfolding aimedAt
-returns-5 c = search (aim-is, needs)
-
-returns-6 : tie.Need-returns-6
-unfolding aimedAt
-returns-6 c = search (aim-is, needs)
-
 pub aimed-at-spec : {M : Type 1} → statement M
+unfolding aimedAt
 aimed-at-spec =
     tie.close
     (tie.spec
-    (λ c. search needs)
-    (λ c. search needs)
-    (λ c. search needs)
-    (λ c. search needs)
-    (λ c. search needs)
-    (λ c. search needs)
-    (λ c. search needs)
-    (λ c. search needs)
-    (λ c. search needs)
-    returns
-    returns-2
-    returns-3
-    returns-4
-    returns-5
-    returns-6)
+    (λ c. search needs) (λ c. search needs) (λ c. search needs) (λ c. search needs) (λ c. search needs)
+    (λ c. search needs) (λ c. search needs) (λ c. search needs) (λ c. search needs)
+    (λ c. search (aim-is, needs))  -- Event::StepOf(_)
+    (λ c. search (aim-is, needs))  -- Event::WriteBy(_, k, _, _)
+    (λ c. search (aim-is, needs))  -- Event::RelabelBy(_, k, _)
+    (λ c. search (aim-is, needs))  -- Event::NewBy(_, _, _, _)
+    (λ c. search (aim-is, needs))  -- Event::ExecBy(_, k)
+    (λ c. search (aim-is, needs)))  -- Event::StartBy(_, _)

@@ -16,17 +16,14 @@ read-spec =
     (λ c. refuse1 _ _ (c .before .if1 .taken) (c .refused .ensures))
     (λ c κs. search needs)
     -- 2
-    (λ c κs. search needs)
-    (λ c. search needs)
-    (λ c κs. search needs)
+    (λ c κs. search needs) (λ c. search needs) (λ c κs. search needs)
     (λ c.
     let begun = c .before .before .before .before .before .before .before in
     refuse2 _ (begun .if1 .left) _ _ (sym (c .before .before .before .before .cut-fault .ensures) ∙ c .before .before .o .given .1) (c .refused2 .ensures))
     (λ c. search needs)
     -- 3
     (λ c κs. pass-whole _ (sym (c .before .before .cut-fault .ensures) ∙ c .enum-told .given .1))
-    (λ c. search needs)
-    (λ c κs. search needs)
+    (λ c. search needs) (λ c κs. search needs)
     (λ c.
     let p1 = c .before .before .before .before .before in
     let begun = p1 .before .before .before .before .before in
@@ -35,8 +32,7 @@ read-spec =
     (λ c. search needs)
     -- 4
     (λ c κs. let p1 = c .before .before .before in pass-whole _ (sym (p1 .before .before .cut-fault .ensures) ∙ p1 .enum-told .given .1))
-    (λ c. search needs)
-    (λ c κs. search needs)
+    (λ c. search needs) (λ c κs. search needs)
     (λ c.
     let p2 = c .before .before .before .before .before in
     let p1 = p2 .before .before .before in
@@ -50,8 +46,7 @@ read-spec =
     let p2 = c .before .before .before in
     let p1 = p2 .before .before .before in
     pass-whole _ (sym (p1 .before .before .cut-fault .ensures) ∙ p1 .enum-told .given .1))
-    (λ c. search needs)
-    (λ c κs. search needs)
+    (λ c. search needs) (λ c κs. search needs)
     (λ c.
     let p3 = c .before .before .before .before .before in
     let p2 = p3 .before .before .before in

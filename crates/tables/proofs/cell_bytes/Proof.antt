@@ -4,19 +4,10 @@ use Rattle.tables.proofs.Coded.{cell-is}
 use Rattle.tables.proofs.cell_bytes.Tie as tie
 use Rattle.tables.proofs.cell_bytes.Statement.{statement}
 
-returns : tie.Need-returns
-returns c = search cell-is
-
 pub cell-bytes-spec : {M : Type 1} → statement M
 cell-bytes-spec =
     tie.close
     (tie.spec
-    (λ c κs. search needs)
-    (λ c κs. search needs)
-    (λ c. search needs)
-    (λ c. search needs)
-    (λ c. search needs)
-    (λ c. search needs)
-    (λ c. search needs)
-    (λ c. search needs)
-    returns)
+    (λ c κs. search needs) (λ c κs. search needs) (λ c. search needs) (λ c. search needs) (λ c. search needs)
+    (λ c. search needs) (λ c. search needs) (λ c. search needs)
+    (λ c. search cell-is))

@@ -1,4 +1,4 @@
--- `save_cells` meets its contract. Assumes nothing.
+-- `save_cells` meets its contract. The records of the cells behind stand in their places. Assumes nothing.
 use Prim.Native.Nat.{_-_}
 use borrow.Author.Needs.{needs}
 use Rattle.tables.proofs.Saved.{CellsIn, cell-saves}
@@ -11,33 +11,15 @@ Inv-loop n shapes out₀ cells i₀ out i = CellsIn shapes cells n out i
 abbrev μ-loop : tie.MeasureT-loop
 μ-loop n shapes out₀ cells i₀ out i = n - i
 
-loop-holds : tie.Need-loop-holds Inv-loop μ-loop
-loop-holds c = search cell-saves
-
-loop-again : tie.Need-loop-again Inv-loop μ-loop
-loop-again c = search cell-saves
-
-returns : tie.Need-returns Inv-loop μ-loop
-returns c = search cell-saves
-
 pub save-cells-spec : {M : Type 1} → statement M
 save-cells-spec =
     tie.close
     (tie.spec
     Inv-loop
     μ-loop
-    loop-holds
-    (λ c. search needs)
-    (λ c. search needs)
-    (λ c κs. search needs)
-    (λ c κs. search needs)
-    (λ c. search needs)
-    (λ c. search needs)
-    (λ c κs. search needs)
-    (λ c. search needs)
-    (λ c. search needs)
-    loop-again
-    (λ c. search needs)
-    (λ c κs. search needs)
-    (λ c. search needs)
-    returns)
+    (λ c. search cell-saves)  -- the loop begins
+    (λ c. search needs) (λ c. search needs) (λ c κs. search needs) (λ c κs. search needs) (λ c. search needs)
+    (λ c. search needs) (λ c κs. search needs) (λ c. search needs) (λ c. search needs)
+    (λ c. search cell-saves)  -- the invariant holds again
+    (λ c. search needs) (λ c κs. search needs) (λ c. search needs)
+    (λ c. search cell-saves))

@@ -4,16 +4,9 @@ use Rattle.tables.proofs.Saved.{job-saved}
 use Rattle.tables.proofs.save_job.Statement.{statement}
 use Rattle.tables.proofs.save_job.Tie as tie
 
-returns : tie.Need-returns
-returns c = search (job-saved, needs)
-
 pub save-job-spec : {M : Type 1} → statement M
 save-job-spec =
     tie.close
     (tie.spec
-    (λ c κs. search needs)
-    (λ c. search needs)
-    (λ c. search needs)
-    (λ c κs. search needs)
-    (λ c. search needs)
-    returns)
+    (λ c κs. search needs) (λ c. search needs) (λ c. search needs) (λ c κs. search needs) (λ c. search needs)
+    (λ c. search (job-saved, needs)))

@@ -9,4 +9,5 @@ unfolding sum
 returns c = search needs
 
 pub add-numbers-spec : {M : Type 1} → statement M
-add-numbers-spec = tie.close (tie.spec (λ c. search needs) (λ c. search needs) returns)
+add-numbers-spec = tie.close
+    (tie.spec (λ c. search needs) (λ c. search needs) returns)

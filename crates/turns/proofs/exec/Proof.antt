@@ -4,11 +4,9 @@ use Rattle.turns.proofs.Taking.{throughs}
 use Rattle.turns.proofs.exec.Statement.{statement}
 use Rattle.turns.proofs.exec.Tie as tie
 
-returns : tie.Need-returns
-returns c = search (throughs, needs)
-
-returns-2 : tie.Need-returns-2
-returns-2 c = search (throughs, needs)
-
 pub exec-spec : {M : Type 1} → statement M
-exec-spec = tie.close (tie.spec returns (λ c κs. search needs) returns-2)
+exec-spec = tie.close
+    (tie.spec
+    (λ c. search (throughs, needs))  -- u.kind != value_kind::CELL
+    (λ c κs. search needs)
+    (λ c. search (throughs, needs)))  -- not (u.kind != value_kind::CELL)

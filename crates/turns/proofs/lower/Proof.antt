@@ -5,13 +5,10 @@ use Rattle.turns.proofs.Telling.{tell-lower}
 use Rattle.turns.proofs.lower.Statement.{statement}
 use Rattle.turns.proofs.lower.Tie as tie
 
-returns : tie.Need-returns
-returns c = search (tell-lower, lowers, needs)
-
-returns-2 : tie.Need-returns-2
-returns-2 c = search (tell-lower, lowers, needs)
-
 pub lower-spec : {M : Type 1} → statement M
 lower-spec =
     tie.close
-    (tie.spec (λ c. search needs) (λ c κs. search needs) (λ c κs. search needs) (λ c κs. search needs) returns returns-2)
+    (tie.spec
+    (λ c. search needs) (λ c κs. search needs) (λ c κs. search needs) (λ c κs. search needs)
+    (λ c. search (tell-lower, lowers, needs))  -- l.reaches(q)
+    (λ c. search (tell-lower, lowers, needs)))  -- not l.reaches(q)

@@ -4,8 +4,6 @@ use Rattle.turns.proofs.Taking.{new-is}
 use Rattle.turns.proofs.new.Statement.{statement}
 use Rattle.turns.proofs.new.Tie as tie
 
-returns : tie.Need-returns
-returns c = search (new-is, needs)
-
 pub new-spec : {M : Type 1} → statement M
-new-spec = tie.close (tie.spec (λ c κs. search needs) (λ c κs. search needs) returns)
+new-spec = tie.close
+    (tie.spec (λ c κs. search needs) (λ c κs. search needs) (λ c. search (new-is, needs)))

@@ -4,15 +4,11 @@ use Rattle.turns.proofs.Taking.{reads}
 use Rattle.turns.proofs.read.Statement.{statement}
 use Rattle.turns.proofs.read.Tie as tie
 
-returns : tie.Need-returns
-returns c = search (reads, needs)
-
-returns-2 : tie.Need-returns-2
-returns-2 c = search (reads, needs)
-
-returns-3 : tie.Need-returns-3
-returns-3 c = search (reads, needs)
-
 pub read-spec : {M : Type 1} → statement M
 read-spec =
-    tie.close (tie.spec returns (λ c. search needs) (λ c κs. search needs) (λ c κs. search needs) returns-2 returns-3)
+    tie.close
+    (tie.spec
+    (λ c. search (reads, needs))  -- u.kind != value_kind::CELL
+    (λ c. search needs) (λ c κs. search needs) (λ c κs. search needs)
+    (λ c. search (reads, needs))  -- (k as usize) < near.cells
+    (λ c. search (reads, needs)))  -- none of these

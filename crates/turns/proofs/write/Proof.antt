@@ -4,22 +4,11 @@ use Rattle.turns.proofs.Taking.{throughs}
 use Rattle.turns.proofs.write.Statement.{statement}
 use Rattle.turns.proofs.write.Tie as tie
 
-returns : tie.Need-returns
-returns c = search (throughs, needs)
-
-returns-2 : tie.Need-returns-2
-returns-2 c = search (throughs, needs)
-
-returns-3 : tie.Need-returns-3
-returns-3 c = search (throughs, needs)
-
 pub write-spec : {M : Type 1} → statement M
 write-spec =
     tie.close
     (tie.spec
-    returns
-    (λ c κs. search needs)
-    (λ c κs. search needs)
-    (λ c κs. search needs)
-    returns-2
-    returns-3)
+    (λ c. search (throughs, needs))  -- u.kind != value_kind::CELL
+    (λ c κs. search needs) (λ c κs. search needs) (λ c κs. search needs)
+    (λ c. search (throughs, needs))  -- acts::is_open(l, near, u.number)
+    (λ c. search (throughs, needs)))  -- none of these

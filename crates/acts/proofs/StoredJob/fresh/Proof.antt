@@ -1,11 +1,9 @@
--- `Job::fresh` meets its contract. Assumes nothing.
+-- `StoredJob::fresh` meets its contract. Assumes nothing.
 use borrow.Author.Needs.{needs}
 use Rattle.acts.proofs.Values.{fresh-is}
 use Rattle.acts.proofs.StoredJob.fresh.Statement.{statement}
 use Rattle.acts.proofs.StoredJob.fresh.Tie as tie
 
-returns : tie.Need-returns
-returns c = fresh-is _ _ _ _ _ (c .zero-with .ensures)
-
 pub fresh-spec : {M : Type 1} → statement M
-fresh-spec = tie.close (tie.spec (λ c κs. search needs) returns)
+fresh-spec = tie.close
+    (tie.spec (λ c κs. search needs) (λ c. fresh-is _ _ _ _ _ (c .zero-with .ensures)))

@@ -4,8 +4,6 @@ use Rattle.acts.proofs.Values.{values}
 use Rattle.acts.proofs.registers.acted.Statement.{statement}
 use Rattle.acts.proofs.registers.acted.Tie as tie
 
-returns : tie.Need-returns
-returns c = search (values, needs)
-
 pub acted-spec : {M : Type 1} → statement M
-acted-spec = tie.close (tie.spec (λ c κs. search needs) returns)
+acted-spec = tie.close
+    (tie.spec (λ c κs. search needs) (λ c. search (values, needs)))

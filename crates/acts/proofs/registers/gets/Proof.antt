@@ -5,11 +5,9 @@ use Rattle.acts.proofs.Values.{changes}
 use Rattle.acts.proofs.registers.gets.Statement.{statement}
 use Rattle.acts.proofs.registers.gets.Tie as tie
 
-returns : tie.Need-returns
-returns c = search (changes, needs)
-
-returns-2 : tie.Need-returns-2
-returns-2 c = (search (changes, needs), refl)
-
 pub gets-spec : {M : Type 1} → statement M
-gets-spec = tie.close (tie.spec (λ c. search needs) (λ c. search needs) (λ c. search needs) returns returns-2)
+gets-spec = tie.close
+    (tie.spec
+    (λ c. search needs) (λ c. search needs) (λ c. search needs)
+    (λ c. search (changes, needs))
+    (λ c. (search (changes, needs), refl)))

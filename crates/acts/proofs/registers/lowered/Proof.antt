@@ -4,8 +4,6 @@ use Rattle.acts.proofs.Values.{changes}
 use Rattle.acts.proofs.registers.lowered.Statement.{statement}
 use Rattle.acts.proofs.registers.lowered.Tie as tie
 
-returns : tie.Need-returns
-returns c = search (changes, needs)
-
 pub lowered-spec : {M : Type 1} → statement M
-lowered-spec = tie.close (tie.spec (λ c. search needs) returns)
+lowered-spec = tie.close
+    (tie.spec (λ c. search needs) (λ c. search (changes, needs)))

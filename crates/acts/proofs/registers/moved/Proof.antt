@@ -4,8 +4,6 @@ use Rattle.acts.proofs.Values.{changes}
 use Rattle.acts.proofs.registers.moved.Statement.{statement}
 use Rattle.acts.proofs.registers.moved.Tie as tie
 
-returns : tie.Need-returns
-returns c = search (changes, needs)
-
 pub moved-spec : {M : Type 1} → statement M
-moved-spec = tie.close (tie.spec (λ c. search needs) returns)
+moved-spec = tie.close
+    (tie.spec (λ c. search needs) (λ c. search (changes, needs)))

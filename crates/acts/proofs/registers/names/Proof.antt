@@ -9,4 +9,5 @@ unfolding valueOf
 returns c = c .gets .ensures
 
 pub names-spec : {M : Type 1} → statement M
-names-spec = tie.close (tie.spec (λ c. search needs) (λ c κs. search needs) returns)
+names-spec = tie.close
+    (tie.spec (λ c. search needs) (λ c κs. search needs) returns)

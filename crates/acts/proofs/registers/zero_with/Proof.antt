@@ -4,8 +4,6 @@ use Rattle.acts.proofs.Values.{values}
 use Rattle.acts.proofs.registers.zero_with.Statement.{statement}
 use Rattle.acts.proofs.registers.zero_with.Tie as tie
 
-returns : tie.Need-returns
-returns c = search (values, needs)
-
 pub zero-with-spec : {M : Type 1} → statement M
-zero-with-spec = tie.close (tie.spec returns)
+zero-with-spec = tie.close
+    (tie.spec (λ c. search (values, needs)))

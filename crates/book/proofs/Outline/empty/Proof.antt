@@ -9,4 +9,5 @@ unfolding noOutline
 returns c = search needs
 
 pub empty-spec : {M : Type 1} → statement M
-empty-spec = tie.close (tie.spec returns)
+empty-spec = tie.close
+    (tie.spec returns)

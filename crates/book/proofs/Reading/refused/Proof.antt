@@ -3,11 +3,6 @@ use borrow.Author.Needs.{needs}
 use Rattle.book.proofs.Reading.refused.Tie as tie
 use Rattle.book.proofs.Reading.refused.Statement.{statement}
 
-empty-requires : tie.Need-empty-requires
-empty-requires c κs = search needs
-
-returns : tie.Need-returns
-returns c = simp (c .empty .ensures)
-
 pub refused-spec : {M : Type 1} → statement M
-refused-spec = tie.close (tie.spec empty-requires returns)
+refused-spec = tie.close
+    (tie.spec (λ c κs. search needs) (λ c. simp (c .empty .ensures)))

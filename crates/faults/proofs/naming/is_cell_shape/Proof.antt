@@ -6,11 +6,6 @@ use Rattle.book.specs.declared.Shape.{Shape}
 use Rattle.faults.proofs.naming.is_cell_shape.Tie as tie
 use Rattle.faults.proofs.naming.is_cell_shape.Statement.{statement}
 
-shape-in-requires : tie.Need-shape-in-requires
-shape-in-requires c κs = search needs
-
-returns : tie.Need-returns
-returns c = ap (λ (x : Shape). eqb (x .kind) 18) (c .before .shape-in .ensures)
-
 pub is-cell-shape-spec : {M : Type 1} → statement M
-is-cell-shape-spec = tie.close (tie.spec shape-in-requires returns)
+is-cell-shape-spec = tie.close
+    (tie.spec (λ c κs. search needs) (λ c. ap (λ (x : Shape). eqb (x .kind) 18) (c .before .shape-in .ensures)))

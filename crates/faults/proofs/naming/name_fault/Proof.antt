@@ -1,4 +1,4 @@
--- `naming::name_fault` meets its contract. Assumes nothing.
+-- `naming::name_fault` meets its contract. The records behind name what exists; n shapes stand among them. Two arms go on: a shape's, and any other's. Assumes nothing.
 use Prim.Native.Nat.{_≤_, _-_}
 use mathlib.Core.Path.{_≡_}
 use native.Mathlib.Omega.{arith}
@@ -7,7 +7,7 @@ use borrow.Author.Needs.{needs}
 use Rattle.book.specs.Asked.{Whole, isCellShapeIn}
 use Rattle.book.specs.Records.{recordsFrom}
 use Rattle.book.specs.Refusals.{dangles, nameFault}
-use Rattle.book.proofs.Named.{names, name-start, name-shape, name-other}
+use Rattle.book.proofs.NameFaults.{names, name-start, name-shape, name-other}
 use Rattle.book.proofs.Records.{falls}
 use Rattle.book.proofs.Stages.{onward}
 use Rattle.faults.proofs.naming.name_fault.Tie as tie
@@ -19,61 +19,36 @@ Inv-loop s shapes cells blocks o₀ n₀ o n = (o ≤ length s) × Whole s o × 
 abbrev μ-loop : tie.MeasureT-loop
 μ-loop s shapes cells blocks o₀ n₀ o n = length s - o
 
-loop-holds : tie.Need-loop-holds Inv-loop μ-loop
-loop-holds c = (omega arith, search needs, omega arith, search name-start)
-
-slice-aggregate-is-dangling : tie.Need-slice-aggregate-is-dangling Inv-loop μ-loop
-slice-aggregate-is-dangling c = search needs
-
-is-dangling-requires : tie.Need-is-dangling-requires Inv-loop μ-loop
-is-dangling-requires c κs = search needs
-
-returns : tie.Need-returns Inv-loop μ-loop
-returns c = search names
-
-shared-slice-read-k : tie.Need-shared-slice-read-k Inv-loop μ-loop
-shared-slice-read-k c = search needs
-
-group-of-requires : tie.Need-group-of-requires Inv-loop μ-loop
-group-of-requires c κs = search needs
-
-next-record-requires : tie.Need-next-record-requires Inv-loop μ-loop
-next-record-requires c κs = search needs
-
-add-n : tie.Need-add-n Inv-loop μ-loop
-add-n c = search needs
-
-loop-less : tie.Need-loop-less Inv-loop μ-loop
-loop-less c = search falls
-
-loop-again : tie.Need-loop-again Inv-loop μ-loop
-loop-again c = (search onward, search onward, search onward, name-shape _ _ _ _ _ _ _ (c .before .before .before .before .before .before .before .before .loop .inv .3) _ (c .before .before .before .before .before .before .before .before .loop .inv .1) (c .before .before .before .before .before .before .before .loop-test .taken) (c .before .before .before .before .before .is-dangling .ensures) _ _ (c .before .before .before .before .if1 .left) (c .before .next-record .ensures) (c .before .before .group-of .ensures) (c .if2 .taken))
-
-loop-less-2 : tie.Need-loop-less-2 Inv-loop μ-loop
-loop-less-2 c = search falls
-
-loop-again-2 : tie.Need-loop-again-2 Inv-loop μ-loop
-loop-again-2 c = (search onward, search onward, search onward, name-other _ _ _ _ _ _ _ (c .before .before .before .before .before .before .before .before .loop .inv .3) _ (c .before .before .before .before .before .before .before .before .loop .inv .1) (c .before .before .before .before .before .before .before .loop-test .taken) (c .before .before .before .before .before .is-dangling .ensures) _ _ (c .before .before .before .before .if1 .left) (c .before .next-record .ensures) (c .before .before .group-of .ensures) (c .if2 .left))
-
-returns-2 : tie.Need-returns-2 Inv-loop μ-loop
-returns-2 c = search names
-
 pub name-fault-spec : {M : Type 1} → statement M
 name-fault-spec =
     tie.close
     (tie.spec
     Inv-loop
     μ-loop
-    loop-holds
-    slice-aggregate-is-dangling
-    is-dangling-requires
-    returns
-    shared-slice-read-k
-    group-of-requires
-    next-record-requires
-    add-n
-    loop-less
-    loop-again
-    loop-less-2
-    loop-again-2
-    returns-2)
+    (λ c. (omega arith, search needs, omega arith, search name-start))  -- the loop begins
+    (λ c. search needs) (λ c κs. search needs)
+    (λ c. search names)  -- is_dangling(s, o, n, &shapes, cells, blocks)
+    (λ c. search needs) (λ c κs. search needs) (λ c κs. search needs) (λ c. search needs)
+    (λ c. search falls)  -- the measure falls
+    -- the invariant holds again
+    (λ c.
+    let dangled = c .before .before .before .before .before in
+    let round = dangled .before .before in (
+      search onward,
+      search onward,
+      search onward,
+      name-shape _ _ _ _ _ _ _ (round .before .loop .inv .3) _ (round .before .loop .inv .1) (round .loop-test .taken) (dangled .is-dangling .ensures) _ _
+          (c .before .before .before .before .if1 .left) (c .before .next-record .ensures) (c .before .before .group-of .ensures) (c .if2 .taken),
+    ))
+    (λ c. search falls)  -- the measure falls
+    -- the invariant holds again
+    (λ c.
+    let dangled = c .before .before .before .before .before in
+    let round = dangled .before .before in (
+      search onward,
+      search onward,
+      search onward,
+      name-other _ _ _ _ _ _ _ (round .before .loop .inv .3) _ (round .before .loop .inv .1) (round .loop-test .taken) (dangled .is-dangling .ensures) _ _
+          (c .before .before .before .before .if1 .left) (c .before .next-record .ensures) (c .before .before .group-of .ensures) (c .if2 .left),
+    ))
+    (λ c. search names))  -- at the end

@@ -1,4 +1,4 @@
--- `stages::count_fault` meets its contract. Assumes nothing.
+-- `stages::count_fault` meets its contract. The records behind are not too many, and the tally is theirs. Assumes nothing.
 use Prim.Native.Nat.{_≤_, _-_}
 use mathlib.Core.Bool.{false}
 use mathlib.Core.Path.{_≡_}
@@ -19,49 +19,16 @@ Inv-loop s o₀ n₀ o n = (o ≤ length s) × Whole s o × (tooMany n ≡ false
 abbrev μ-loop : tie.MeasureT-loop
 μ-loop s o₀ n₀ o n = length s - o
 
-loop-holds : tie.Need-loop-holds Inv-loop μ-loop
-loop-holds c = (omega arith, search needs, search tallies, search tallies)
-
-shared-slice-read-k : tie.Need-shared-slice-read-k Inv-loop μ-loop
-shared-slice-read-k c = search needs
-
-group-of-requires : tie.Need-group-of-requires Inv-loop μ-loop
-group-of-requires c κs = search needs
-
-count-requires : tie.Need-count-requires Inv-loop μ-loop
-count-requires c κs = search needs
-
-too-many-requires : tie.Need-too-many-requires Inv-loop μ-loop
-too-many-requires c κs = search needs
-
-returns : tie.Need-returns Inv-loop μ-loop
-returns c = search tallies
-
-next-record-requires : tie.Need-next-record-requires Inv-loop μ-loop
-next-record-requires c κs = search needs
-
-loop-less : tie.Need-loop-less Inv-loop μ-loop
-loop-less c = search falls
-
-loop-again : tie.Need-loop-again Inv-loop μ-loop
-loop-again c = (search onward, search onward, search tallies, search tallies)
-
-returns-2 : tie.Need-returns-2 Inv-loop μ-loop
-returns-2 c = search tallies
-
 pub count-fault-spec : {M : Type 1} → statement M
 count-fault-spec =
     tie.close
     (tie.spec
     Inv-loop
     μ-loop
-    loop-holds
-    shared-slice-read-k
-    group-of-requires
-    count-requires
-    too-many-requires
-    returns
-    next-record-requires
-    loop-less
-    loop-again
-    returns-2)
+    (λ c. (omega arith, search needs, search tallies, search tallies))  -- the loop begins
+    (λ c. search needs) (λ c κs. search needs) (λ c κs. search needs) (λ c κs. search needs)
+    (λ c. search tallies)  -- too_many(m)
+    (λ c κs. search needs)
+    (λ c. search falls)  -- the measure falls
+    (λ c. (search onward, search onward, search tallies, search tallies))  -- the invariant holds again
+    (λ c. search tallies))  -- at the end

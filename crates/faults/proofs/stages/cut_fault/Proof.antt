@@ -1,4 +1,4 @@
--- `stages::cut_fault` meets its contract. Assumes nothing.
+-- `stages::cut_fault` meets its contract. The records behind are whole. Assumes nothing.
 use Prim.Native.Nat.{_≤_, _-_}
 use mathlib.Core.Path.{_≡_}
 use native.Mathlib.Omega.{arith}
@@ -17,37 +17,16 @@ Inv-loop s o₀ o = (o ≤ length s) × (first (cut s) (recordsFrom s o) ≡ cut
 abbrev μ-loop : tie.MeasureT-loop
 μ-loop s o₀ o = length s - o
 
-loop-holds : tie.Need-loop-holds Inv-loop μ-loop
-loop-holds c = (omega arith, search cuts)
-
-next-record-requires : tie.Need-next-record-requires Inv-loop μ-loop
-next-record-requires c κs = search needs
-
-returns : tie.Need-returns Inv-loop μ-loop
-returns c = search cuts
-
-returns-2 : tie.Need-returns-2 Inv-loop μ-loop
-returns-2 c = search cuts
-
-loop-less : tie.Need-loop-less Inv-loop μ-loop
-loop-less c = search needs
-
-loop-again : tie.Need-loop-again Inv-loop μ-loop
-loop-again c = (omega arith, search cuts)
-
-returns-3 : tie.Need-returns-3 Inv-loop μ-loop
-returns-3 c = search cuts
-
 pub cut-fault-spec : {M : Type 1} → statement M
 cut-fault-spec =
     tie.close
     (tie.spec
     Inv-loop
     μ-loop
-    loop-holds
-    next-record-requires
-    returns
-    returns-2
-    loop-less
-    loop-again
-    returns-3)
+    (λ c. (omega arith, search cuts))  -- the loop begins
+    (λ c κs. search needs)
+    (λ c. search cuts)  -- end == o
+    (λ c. search cuts)  -- s.len() < end
+    (λ c. search needs)  -- the measure falls
+    (λ c. (omega arith, search cuts))  -- the invariant holds again
+    (λ c. search cuts))  -- at the end

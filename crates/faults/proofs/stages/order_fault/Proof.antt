@@ -1,4 +1,4 @@
--- `stages::order_fault` meets its contract. Assumes nothing.
+-- `stages::order_fault` meets its contract. The records behind are in order, and the group is that of the last. Assumes nothing.
 use Prim.Native.Nat.{_≤_, _-_}
 use mathlib.Core.Path.{_≡_}
 use native.Mathlib.Omega.{arith}
@@ -18,53 +18,16 @@ Inv-loop s o₀ p₀ o p = (o ≤ length s) × Whole s o × (misplaced s p (reco
 abbrev μ-loop : tie.MeasureT-loop
 μ-loop s o₀ p₀ o p = length s - o
 
-loop-holds : tie.Need-loop-holds Inv-loop μ-loop
-loop-holds c = (omega arith, search needs, search orders)
-
-shared-slice-read-k : tie.Need-shared-slice-read-k Inv-loop μ-loop
-shared-slice-read-k c = search needs
-
-group-of-requires : tie.Need-group-of-requires Inv-loop μ-loop
-group-of-requires c κs = search needs
-
-in-order-requires : tie.Need-in-order-requires Inv-loop μ-loop
-in-order-requires c κs = search needs
-
-block-group-requires : tie.Need-block-group-requires Inv-loop μ-loop
-block-group-requires c κs = search needs
-
-next-record-requires : tie.Need-next-record-requires Inv-loop μ-loop
-next-record-requires c κs = search needs
-
-loop-less : tie.Need-loop-less Inv-loop μ-loop
-loop-less c = search falls
-
-loop-again : tie.Need-loop-again Inv-loop μ-loop
-loop-again c = (search onward, search onward, search orders)
-
-returns : tie.Need-returns Inv-loop μ-loop
-returns c = search orders
-
-returns-2 : tie.Need-returns-2 Inv-loop μ-loop
-returns-2 c = search orders
-
-returns-3 : tie.Need-returns-3 Inv-loop μ-loop
-returns-3 c = search orders
-
 pub order-fault-spec : {M : Type 1} → statement M
 order-fault-spec =
     tie.close
     (tie.spec
     Inv-loop
     μ-loop
-    loop-holds
-    shared-slice-read-k
-    group-of-requires
-    in-order-requires
-    block-group-requires
-    next-record-requires
-    loop-less
-    loop-again
-    returns
-    returns-2
-    returns-3)
+    (λ c. (omega arith, search needs, search orders))  -- the loop begins
+    (λ c. search needs) (λ c κs. search needs) (λ c κs. search needs) (λ c κs. search needs) (λ c κs. search needs)
+    (λ c. search falls)  -- the measure falls
+    (λ c. (search onward, search onward, search orders))  -- the invariant holds again
+    (λ c. search orders)  -- else
+    (λ c. search orders)  -- p == group::BLOCKS
+    (λ c. search orders))  -- at the end

@@ -1,4 +1,4 @@
--- `stages::range_fault` meets its contract. Assumes nothing.
+-- `stages::range_fault` meets its contract. The fields of the records behind are in range. Assumes nothing.
 use Prim.Native.Nat.{_≤_, _-_}
 use mathlib.Core.Path.{_≡_}
 use native.Mathlib.Omega.{arith}
@@ -19,37 +19,16 @@ Inv-loop s o₀ o = (o ≤ length s) × Whole s o × (first (outOfRange s) (reco
 abbrev μ-loop : tie.MeasureT-loop
 μ-loop s o₀ o = length s - o
 
-loop-holds : tie.Need-loop-holds Inv-loop μ-loop
-loop-holds c = (omega arith, search needs, search ranges)
-
-out-of-range-requires : tie.Need-out-of-range-requires Inv-loop μ-loop
-out-of-range-requires c κs = search needs
-
-returns : tie.Need-returns Inv-loop μ-loop
-returns c = search ranges
-
-next-record-requires : tie.Need-next-record-requires Inv-loop μ-loop
-next-record-requires c κs = search needs
-
-loop-less : tie.Need-loop-less Inv-loop μ-loop
-loop-less c = search falls
-
-loop-again : tie.Need-loop-again Inv-loop μ-loop
-loop-again c = (search onward, search onward, search ranges)
-
-returns-2 : tie.Need-returns-2 Inv-loop μ-loop
-returns-2 c = search ranges
-
 pub range-fault-spec : {M : Type 1} → statement M
 range-fault-spec =
     tie.close
     (tie.spec
     Inv-loop
     μ-loop
-    loop-holds
-    out-of-range-requires
-    returns
-    next-record-requires
-    loop-less
-    loop-again
-    returns-2)
+    (λ c. (omega arith, search needs, search ranges))  -- the loop begins
+    (λ c κs. search needs)
+    (λ c. search ranges)  -- out_of_range(s, o)
+    (λ c κs. search needs)
+    (λ c. search falls)  -- the measure falls
+    (λ c. (search onward, search onward, search ranges))  -- the invariant holds again
+    (λ c. search ranges))  -- at the end

@@ -1,17 +1,13 @@
--- `Trust::capped` meets its contract. Assumes nothing.
+-- `Trust::capped` meets its contract. Each return is an equation of numbers. Assumes nothing.
 use mathlib.Core.Path.{ap}
 use native.Mathlib.Omega.{arith}
 use Rattle.labels.specs.Labels.{label, capped}
 use Rattle.labels.proofs.Trust.capped.Tie as tie
 use Rattle.labels.proofs.Trust.capped.Statement.{statement}
 
-returns : tie.Need-returns
-unfolding capped
-returns c = ap label (omega arith)
-
-returns-2 : tie.Need-returns-2
-unfolding capped
-returns-2 c = ap label (omega arith)
-
 pub capped-spec : {M : Type 1} → statement M
-capped-spec = tie.close (tie.spec returns returns-2)
+unfolding capped
+capped-spec = tie.close
+    (tie.spec
+    (λ c. ap label (omega arith))  -- trust <= label.0
+    (λ c. ap label (omega arith)))  -- not (trust <= label.0)

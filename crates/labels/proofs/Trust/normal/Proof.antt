@@ -17,14 +17,9 @@ module _ (t : Trust) (c : Label) (b : Bool) (e : b ≡ isHigh t c) where
   unfolding normal
   low h = simp (normal, ← e, h)
 
-is-high-requires : tie.Need-is-high-requires
-is-high-requires c κs = search needs
-
-returns : tie.Need-returns
-returns c = search (high, low)
-
-returns-2 : tie.Need-returns-2
-returns-2 c = search (high, low)
-
 pub normal-spec : {M : Type 1} → statement M
-normal-spec = tie.close (tie.spec is-high-requires returns returns-2)
+normal-spec = tie.close
+    (tie.spec
+    (λ c κs. search needs)
+    (λ c. search (high, low))  -- self.is_high(c)
+    (λ c. search (high, low)))  -- not self.is_high(c)

@@ -9,8 +9,7 @@ pub span-of-spec : {M : Type 1} → statement M
 span-of-spec =
     tie.close
     (tie.spec
-    (λ c κs. search needs)
-    (λ c. search needs)
+    (λ c κs. search needs) (λ c. search needs)
     (λ c. span-between 49 63 0 tt _ (search needs) (omega arith) (omega arith))
     (λ c. span-between 48 48 2 tt _ (search needs) (omega arith) (omega arith))
     (λ c. span-between 33 47 0 tt _ (search needs) (omega arith) (omega arith))

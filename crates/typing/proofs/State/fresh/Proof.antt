@@ -9,4 +9,5 @@ unfolding fresh
 returns c = search needs
 
 pub fresh-spec : {M : Type 1} → statement M
-fresh-spec = tie.close (tie.spec returns)
+fresh-spec = tie.close
+    (tie.spec returns)

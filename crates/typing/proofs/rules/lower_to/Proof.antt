@@ -4,9 +4,7 @@ use Rattle.typing.specs.Asked.{told}
 use Rattle.typing.proofs.rules.lower_to.Tie as tie
 use Rattle.typing.proofs.rules.lower_to.Statement.{statement}
 
-returns : tie.Need-returns
-unfolding told
-returns c = search needs
-
 pub lower-to-spec : {M : Type 1} → statement M
-lower-to-spec = tie.close (tie.spec returns)
+unfolding told
+lower-to-spec = tie.close
+    (tie.spec (λ c. search needs))

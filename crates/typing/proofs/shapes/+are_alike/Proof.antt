@@ -1,4 +1,4 @@
--- `shapes::are_alike` meets its contract. Assumes nothing.
+-- `shapes::are_alike` meets its contract: it calls itself, and the shape's number falls, since contents are lower-numbered. Assumes nothing.
 use Prim.Native.Nat.{ℕ, _<_}
 use borrow.Author.Needs.{needs}
 use borrow.Fn.Kinds.{In}
@@ -23,172 +23,19 @@ abbrev are-alike-below : ℕ → In 1 are-alike-kinds.ps
 are-alike-below t =
     and 1 are-alike-kinds.ps (falls 1 are-alike-kinds.ps _<_ μ-are-alike t) are-alike.Pre
 
-are-alike-shape-in-requires : (t : ℕ) → are-alike-lts.Need-shape-in-requires (
-  shape-in-reads.Asked,
-  shape-in-reads.Learnt,
-  trust-of-reads.Asked,
-  trust-of-reads.Learnt,
-  are-alike-below t,
-  are-alike.Post,
-  is-plain-reads.Asked,
-  is-plain-reads.Learnt,
-) (are-alike-at t) are-alike.Post
-are-alike-shape-in-requires t c κs = search needs
-
-are-alike-shape-in-requires-2 : (t : ℕ) → are-alike-lts.Need-shape-in-requires-2 (
-  shape-in-reads.Asked,
-  shape-in-reads.Learnt,
-  trust-of-reads.Asked,
-  trust-of-reads.Learnt,
-  are-alike-below t,
-  are-alike.Post,
-  is-plain-reads.Asked,
-  is-plain-reads.Learnt,
-) (are-alike-at t) are-alike.Post
-are-alike-shape-in-requires-2 t c κs = search needs
-
-are-alike-returns : (t : ℕ) → are-alike-lts.Need-returns (
-  shape-in-reads.Asked,
-  shape-in-reads.Learnt,
-  trust-of-reads.Asked,
-  trust-of-reads.Learnt,
-  are-alike-below t,
-  are-alike.Post,
-  is-plain-reads.Asked,
-  is-plain-reads.Learnt,
-) (are-alike-at t) are-alike.Post
-are-alike-returns t c = search likes
-
-are-alike-returns-2 : (t : ℕ) → are-alike-lts.Need-returns-2 (
-  shape-in-reads.Asked,
-  shape-in-reads.Learnt,
-  trust-of-reads.Asked,
-  trust-of-reads.Learnt,
-  are-alike-below t,
-  are-alike.Post,
-  is-plain-reads.Asked,
-  is-plain-reads.Learnt,
-) (are-alike-at t) are-alike.Post
-are-alike-returns-2 t c = search likes
-
-are-alike-trust-of-requires : (t : ℕ) → are-alike-lts.Need-trust-of-requires (
-  shape-in-reads.Asked,
-  shape-in-reads.Learnt,
-  trust-of-reads.Asked,
-  trust-of-reads.Learnt,
-  are-alike-below t,
-  are-alike.Post,
-  is-plain-reads.Asked,
-  is-plain-reads.Learnt,
-) (are-alike-at t) are-alike.Post
-are-alike-trust-of-requires t c κs = search needs
-
-are-alike-trust-of-requires-2 : (t : ℕ) → are-alike-lts.Need-trust-of-requires-2 (
-  shape-in-reads.Asked,
-  shape-in-reads.Learnt,
-  trust-of-reads.Asked,
-  trust-of-reads.Learnt,
-  are-alike-below t,
-  are-alike.Post,
-  is-plain-reads.Asked,
-  is-plain-reads.Learnt,
-) (are-alike-at t) are-alike.Post
-are-alike-trust-of-requires-2 t c κs = search needs
-
-are-alike-are-alike-requires : (t : ℕ) → are-alike-lts.Need-are-alike-requires (
-  shape-in-reads.Asked,
-  shape-in-reads.Learnt,
-  trust-of-reads.Asked,
-  trust-of-reads.Learnt,
-  are-alike-below t,
-  are-alike.Post,
-  is-plain-reads.Asked,
-  is-plain-reads.Learnt,
-) (are-alike-at t) are-alike.Post
-are-alike-are-alike-requires t c κs = search content-falls
-
-are-alike-returns-3 : (t : ℕ) → are-alike-lts.Need-returns-3 (
-  shape-in-reads.Asked,
-  shape-in-reads.Learnt,
-  trust-of-reads.Asked,
-  trust-of-reads.Learnt,
-  are-alike-below t,
-  are-alike.Post,
-  is-plain-reads.Asked,
-  is-plain-reads.Learnt,
-) (are-alike-at t) are-alike.Post
-are-alike-returns-3 t c = search likes
-
-are-alike-returns-4 : (t : ℕ) → are-alike-lts.Need-returns-4 (
-  shape-in-reads.Asked,
-  shape-in-reads.Learnt,
-  trust-of-reads.Asked,
-  trust-of-reads.Learnt,
-  are-alike-below t,
-  are-alike.Post,
-  is-plain-reads.Asked,
-  is-plain-reads.Learnt,
-) (are-alike-at t) are-alike.Post
-are-alike-returns-4 t c = search likes
-
-are-alike-returns-5 : (t : ℕ) → are-alike-lts.Need-returns-5 (
-  shape-in-reads.Asked,
-  shape-in-reads.Learnt,
-  trust-of-reads.Asked,
-  trust-of-reads.Learnt,
-  are-alike-below t,
-  are-alike.Post,
-  is-plain-reads.Asked,
-  is-plain-reads.Learnt,
-) (are-alike-at t) are-alike.Post
-are-alike-returns-5 t c = search likes
-
-are-alike-is-plain-requires : (t : ℕ) → are-alike-lts.Need-is-plain-requires (
-  shape-in-reads.Asked,
-  shape-in-reads.Learnt,
-  trust-of-reads.Asked,
-  trust-of-reads.Learnt,
-  are-alike-below t,
-  are-alike.Post,
-  is-plain-reads.Asked,
-  is-plain-reads.Learnt,
-) (are-alike-at t) are-alike.Post
-are-alike-is-plain-requires t c κs = search needs
-
-are-alike-returns-6 : (t : ℕ) → are-alike-lts.Need-returns-6 (
-  shape-in-reads.Asked,
-  shape-in-reads.Learnt,
-  trust-of-reads.Asked,
-  trust-of-reads.Learnt,
-  are-alike-below t,
-  are-alike.Post,
-  is-plain-reads.Asked,
-  is-plain-reads.Learnt,
-) (are-alike-at t) are-alike.Post
-are-alike-returns-6 t c = search likes
-
 pub +are-alike-spec : {M : Type 1} → statement M
-+are-alike-spec = close μ-are-alike λ t. are-alike-lts.spec (
-  shape-in-reads.Asked,
-  shape-in-reads.Learnt,
-  trust-of-reads.Asked,
-  trust-of-reads.Learnt,
-  are-alike-below t,
-  are-alike.Post,
-  is-plain-reads.Asked,
-  is-plain-reads.Learnt,
-)
++are-alike-spec =
+    close μ-are-alike
+    (λ t. are-alike-lts.spec
+    (shape-in-reads.Asked, shape-in-reads.Learnt, trust-of-reads.Asked, trust-of-reads.Learnt, are-alike-below t, are-alike.Post, is-plain-reads.Asked, is-plain-reads.Learnt)
     (are-alike-at t)
     are-alike.Post
-    (are-alike-shape-in-requires t)
-    (are-alike-shape-in-requires-2 t)
-    (are-alike-returns t)
-    (are-alike-returns-2 t)
-    (are-alike-trust-of-requires t)
-    (are-alike-trust-of-requires-2 t)
-    (are-alike-are-alike-requires t)
-    (are-alike-returns-3 t)
-    (are-alike-returns-4 t)
-    (are-alike-returns-5 t)
-    (are-alike-is-plain-requires t)
-    (are-alike-returns-6 t)
+    (λ c κs. search needs) (λ c κs. search needs)
+    (λ c. search likes)  -- a code shape, and b
+    (λ c. search likes)  -- not b
+    (λ c κs. search needs) (λ c κs. search needs) (λ c κs. search content-falls)
+    (λ c. search likes)  -- cell shapes of one trust
+    (λ c. search likes)  -- of two
+    (λ c. search likes)  -- a a cell shape, not b
+    (λ c κs. search needs)
+    (λ c. search likes))  -- a plain
