@@ -74,7 +74,7 @@ module _ (K : Book) where
   Fits cs v (N.Code b) = Has cs v (code (b .0))
   Fits cs v (N.CellOf i) = Has cs v (treeOf i)
 
-  -- a cell of content t and trust S: 1, 2 and 3
+  -- a cell of content t and trust S, if S is above C: its label and its value's source are at least S, and it holds what its shape says
   pub record Good (cs : Cells) (c : Cell Label) (t : Tree) (S : ℕ) : Type 0 where
     pub label : S ≤ max (K .c .0) (c .label .0)
     pub source : S ≤ max (K .c .0) (c .content .history .0)
@@ -83,20 +83,20 @@ module _ (K : Book) where
   abbrev pub CellOk : Cells → Cell Label → Type 0
   CellOk cs c = (t : Tree) (S : ℕ) → treeOf (c .shape) ≡ cell t S → Good cs c t S
 
-  -- a register of a job at label l: 7 and 8
+  -- a register of a job at label l, if its effect is above C: it holds what is known of it, and its source is at least its used effect
   pub record RegisterOk (cs : Cells) (l : ℕ) (x : Register) (v : Traced Label) : Type 0 where
     pub cellular : (i : ℕ) → x .known ≡ N.CellOf i → isCellShape (K .c) shapeOf i ≡ true
     pub fits : K .c .0 < x .effect .0 → Fits cs (v .value) (x .known)
     pub source : min (x .effect .0) l ≤ max (K .c .0) (v .history .0)
 
-  -- a state of the typing and a job: 5, 6 and 9
+  -- a job that matches a state of the typing: its label is at most P, and P behind a lower; its source is at least its label; its registers match
   pub record Match (cs : Cells) (t : T.State) (j : Job Label) : Type 0 where
     pub label : j .label .0 ≤ max (K .c .0) (t .p .0)
     pub lowered : t .lowered ≡ true → t .p .0 ≤ max (K .c .0) (j .label .0)
     pub source : j .label .0 ≤ max (K .c .0) (j .history .0)
     pub registers : All2 (RegisterOk cs (j .label .0)) (t .registers) (j .registers)
 
-  -- 4: the rest of the block passes from a state that matches
+  -- a job: the rest of its block passes from a state that it matches
   pub record JobOk (cs : Cells) (j : Job Label) : Type 0 where
     pub state : T.State
     pub matches : Match cs state j

@@ -51,9 +51,9 @@ module _ (cells blocks k n : ℕ) where
 -- r is whether q is an outsider's label
 module _ (c q : Label) (r : Bool) (er : r ≡ reaches c q) where
   module _ (blocks cells k v n : ℕ) where
-    pub write-inside : r ≡ false → false ≡ suchWrite c blocks cells q k v n
+    pub write-above-c : r ≡ false → false ≡ suchWrite c blocks cells q k v n
     unfolding suchWrite both
-    write-inside f = simp (← er, f)
+    write-above-c f = simp (← er, f)
 
     pub write-nowhere : r ≡ true → cells ≤ k → false ≡ suchWrite c blocks cells q k v n
     unfolding suchWrite both
@@ -64,9 +64,9 @@ module _ (c q : Label) (r : Bool) (er : r ≡ reaches c q) where
     write-such b f h eb = eb ∙ simp (← er, f, lt-ltb _ _ h)
 
   module _ (cells k : ℕ) (o : Label) where
-    pub relabel-inside : r ≡ false → false ≡ suchRelabel c cells q k o
+    pub relabel-above-c : r ≡ false → false ≡ suchRelabel c cells q k o
     unfolding suchRelabel both
-    relabel-inside f = simp (← er, f)
+    relabel-above-c f = simp (← er, f)
 
     pub relabel-nowhere : r ≡ true → cells ≤ k → false ≡ suchRelabel c cells q k o
     unfolding suchRelabel both
@@ -77,9 +77,9 @@ module _ (c q : Label) (r : Bool) (er : r ≡ reaches c q) where
     relabel-such b f h eb = eb ∙ simp (← er, f, lt-ltb _ _ h)
 
   module _ (shape : ℕ → Shape) (blocks cells i v n : ℕ) where
-    pub new-inside : r ≡ false → false ≡ suchNew c shape blocks cells q i v n
+    pub new-above-c : r ≡ false → false ≡ suchNew c shape blocks cells q i v n
     unfolding suchNew both
-    new-inside f = simp (← er, f)
+    new-above-c f = simp (← er, f)
 
     module _ (f : r ≡ true) (l : Bool) (el : l ≡ lowCellShape c (shape i)) where
       pub new-other : l ≡ false → false ≡ suchNew c shape blocks cells q i v n
@@ -91,9 +91,9 @@ module _ (c q : Label) (r : Bool) (er : r ≡ reaches c q) where
       new-such b h eb = eb ∙ simp (← er, f, ← el, h)
 
   module _ (count k : ℕ) where
-    pub number-inside : r ≡ false → false ≡ suchNumber c count q k
+    pub number-above-c : r ≡ false → false ≡ suchNumber c count q k
     unfolding suchNumber both
-    number-inside f = simp (← er, f)
+    number-above-c f = simp (← er, f)
 
     pub number-such : r ≡ true → ltb k count ≡ suchNumber c count q k
     unfolding suchNumber both
@@ -131,16 +131,16 @@ pub ruleset suches = (
   low-cell,
   value-other,
   value-such,
-  write-inside,
+  write-above-c,
   write-nowhere,
   write-such,
-  relabel-inside,
+  relabel-above-c,
   relabel-nowhere,
   relabel-such,
-  new-inside,
+  new-above-c,
   new-other,
   new-such,
-  number-inside,
+  number-above-c,
   number-such,
   such-step,
   such-write,
