@@ -31,7 +31,7 @@ fits-whole s bytes o w a b c x y z k h l ex ey ez la lb lc d =
     record {
       bytes = k .bytes;
       uncut = uncut span s o (λ e. d (k .bytes ∙ e)) (rw (k .bytes) at (room w l));
-      narrow = sym (third-above s bytes o a b c x (k .limited) ex y ey la z ez lb) ∙ le-ltb _ _ lc;
+      narrow = sym (third-above s bytes o a x (k .limited .0) ex b y (k .limited .1) ey la c z (k .limited .2) ez lb) ∙ le-ltb _ _ lc;
     }
   where
     room : (v : ℕ) → v ≤ length s - o → o + v ≤ length s

@@ -9,7 +9,7 @@ ghost use mathlib.Core.Bool.{false};
 ghost use Prim.Native.Nat.{_<_, min};
 ghost use lib.ListN.{length};
 ghost use Rattle.book.specs.Refusals.{cutFault, inOrder, orderFault, counted, tooMany, countFault, outOfRange, rangeFault};
-ghost use Rattle.book.specs.Asked.{Whole, Limited};
+ghost use Rattle.book.specs.Asked.{Whole, limit};
 
 // 2: a kind that is none, or a body that the book ends in.
 pub fn cut_fault(s: &[u8]) -> Fault
@@ -141,47 +141,97 @@ pub fn count_fault(s: &[u8]) -> Fault
     Fault::Nowhere
 }
 
-// The largest values of a record's first three fields; 255 where any byte will do, or none stands.
-struct Limits {
-    first: u8,
-    second: u8,
-    third: u8,
+// The largest value of a record's first field; that of any byte where any will do, or none stands.
+fn first_limit(kind: u8) -> u8
+    ensures { λ r. ⌜ r ≡ limit kind 0 ⌝ }
+{
+    if kind::EXEC < kind {
+        return limit::ANY;
+    }
+    if kind::EXEC <= kind {
+        return limit::REGISTER;
+    }
+    if kind::START <= kind {
+        return limit::ANY;
+    }
+    if kind::LOWER <= kind {
+        return limit::LABEL;
+    }
+    if kind::PUT <= kind {
+        return limit::REGISTER;
+    }
+    if kind::BLOCK < kind {
+        return limit::ANY;
+    }
+    if kind::BLOCK <= kind {
+        return limit::LABEL;
+    }
+    if kind::CELL_SHAPE <= kind {
+        return limit::ANY;
+    }
+    if kind::CODE_SHAPE <= kind {
+        return limit::LABEL;
+    }
+    if kind::C < kind {
+        return limit::ANY;
+    }
+    if kind::C <= kind {
+        return limit::C;
+    }
+    limit::ANY
 }
 
-fn limited(kind: u8, first: u8, second: u8, third: u8) -> Limits
-    requires { ⌜ Limited kind first second third ⌝ }
-    ensures { λ r. ⌜ Limited kind (r .first) (r .second) (r .third) ⌝ }
+// That of its second.
+fn second_limit(kind: u8) -> u8
+    ensures { λ r. ⌜ r ≡ limit kind 1 ⌝ }
 {
-    Limits {
-        first: first,
-        second: second,
-        third: third,
+    if kind::LOWER <= kind {
+        return limit::ANY;
     }
+    if kind::RELABEL <= kind {
+        return limit::LABEL;
+    }
+    if kind::READ <= kind {
+        return limit::REGISTER;
+    }
+    if kind::NEW <= kind {
+        return limit::ANY;
+    }
+    if kind::ADD <= kind {
+        return limit::REGISTER;
+    }
+    if kind::CELL < kind {
+        return limit::ANY;
+    }
+    if kind::CELL <= kind {
+        return limit::LABEL;
+    }
+    if kind::CELL_SHAPE < kind {
+        return limit::ANY;
+    }
+    if kind::CELL_SHAPE <= kind {
+        return limit::LABEL;
+    }
+    limit::ANY
 }
 
-fn limits_of(kind: u8) -> Limits
-    ensures { λ r. ⌜ Limited kind (r .first) (r .second) (r .third) ⌝ }
+// That of its third.
+fn third_limit(kind: u8) -> u8
+    ensures { λ r. ⌜ r ≡ limit kind 2 ⌝ }
 {
-    match kind {
-        kind::C => limited(kind, limit::C, limit::ANY, limit::ANY),
-        kind::PLAIN_SHAPE => limited(kind, limit::ANY, limit::ANY, limit::ANY),
-        kind::CODE_SHAPE => limited(kind, limit::LABEL, limit::ANY, limit::ANY),
-        kind::CELL_SHAPE => limited(kind, limit::ANY, limit::LABEL, limit::ANY),
-        kind::CELL => limited(kind, limit::ANY, limit::LABEL, limit::VALUE_KIND),
-        kind::BLOCK => limited(kind, limit::LABEL, limit::ANY, limit::ANY),
-        kind::PUT => limited(kind, limit::REGISTER, limit::ANY, limit::ANY),
-        kind::NAME => limited(kind, limit::REGISTER, limit::ANY, limit::ANY),
-        kind::CODE => limited(kind, limit::REGISTER, limit::ANY, limit::ANY),
-        kind::ADD => limited(kind, limit::REGISTER, limit::REGISTER, limit::REGISTER),
-        kind::NEW => limited(kind, limit::REGISTER, limit::ANY, limit::REGISTER),
-        kind::READ => limited(kind, limit::REGISTER, limit::REGISTER, limit::ANY),
-        kind::WRITE => limited(kind, limit::REGISTER, limit::REGISTER, limit::ANY),
-        kind::RELABEL => limited(kind, limit::REGISTER, limit::LABEL, limit::ANY),
-        kind::LOWER => limited(kind, limit::LABEL, limit::ANY, limit::ANY),
-        kind::START => limited(kind, limit::ANY, limit::ANY, limit::ANY),
-        kind::EXEC => limited(kind, limit::REGISTER, limit::ANY, limit::ANY),
-        _ => limited(kind, limit::ANY, limit::ANY, limit::ANY),
+    if kind::READ <= kind {
+        return limit::ANY;
     }
+    if kind::ADD <= kind {
+        return limit::REGISTER;
+    }
+    if kind::CELL < kind {
+        return limit::ANY;
+    }
+    if kind::CELL <= kind {
+        return limit::VALUE_KIND;
+    }
+    limit::ANY
 }
 
 // A field is above its largest value. No field after the third has one.
@@ -189,14 +239,14 @@ fn out_of_range(s: &[u8], o: usize) -> bool
     requires { ⌜ o < length (now s) ⌝ }
     ensures { λ r. ⌜ r ≡ outOfRange (now (s .entry)) o ⌝ }
 {
-    let limits = limits_of(s[o]);
-    if limits.first < records::byte(s, o + 1) {
+    let k = s[o];
+    if first_limit(k) < records::byte(s, o + 1) {
         return true;
     }
-    if limits.second < records::byte(s, o + 2) {
+    if second_limit(k) < records::byte(s, o + 2) {
         return true;
     }
-    limits.third < records::byte(s, o + 3)
+    third_limit(k) < records::byte(s, o + 3)
 }
 
 // 5: a label, bound or trust above 15, C above 14, a register above 7, a value kind above 2.
