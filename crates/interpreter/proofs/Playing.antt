@@ -91,6 +91,10 @@ blocks-count b starts e = ap length e ∙ length-map (blocksOf b) startAt ∙ sy
 module _ {b : List ℕ} {c : Label} {shapes offsets starts list room-cells room-jobs before now : List ℕ} {cells : List StoredCell} {n : ℕ} {jobs : List StoredJob}
     {m o at : ℕ}
     (w : Playing b c shapes offsets starts list room-cells room-jobs before now cells n jobs m o at) where
+  -- the same run, with these answers, cells and jobs, at this offset and place
+  abbrev Run-at : List ℕ → List StoredCell → ℕ → List StoredJob → ℕ → ℕ → ℕ → Type 0
+  Run-at = Playing b c shapes offsets starts list room-cells room-jobs before
+
   -- every job of the array is where the book says
   pub playing-small : (i : ℕ) (d : StoredJob) → i < m → getD jobs i d .position < 65535
   playing-small i d h =
@@ -136,7 +140,7 @@ module _ {b : List ℕ} {c : Label} {shapes offsets starts list room-cells room-
     pub further : (e : Event) → e ≡ eventAt list o → (p : ℕ) → p ≡ nextEvent list o → (a : ℕ) (t : State Label)
         → outcomeOf sources tableSize (parse b) (w .going .state) e ≡ record { answer = a; state = t }
         → (cells′ : List StoredCell) (n′ : ℕ) (jobs′ : List StoredJob) (m′ : ℕ) → n′ ≤ 64 → Holds b t cells′ n′ jobs′ m′
-        → Playing b c shapes offsets starts list room-cells room-jobs before (set now at a) cells′ n′ jobs′ m′ p (at + 1)
+        → Run-at (set now at a) cells′ n′ jobs′ m′ p (at + 1)
     further e ee p ep a t lands cells′ n′ jobs′ m′ f q =
         let k = walk list o (w .going .whole) h in
         record {
@@ -157,14 +161,14 @@ module _ {b : List ℕ} {c : Label} {shapes offsets starts list room-cells room-
       pub playing-step-falls : length list - (o + 2) < length list - o
       playing-step-falls = playing-falls (o + 2) (next-step list o here)
 
-      pub playing-past : m ≤ i → Playing b c shapes offsets starts list room-cells room-jobs before (set now at 3) cells n jobs m (o + 2) (at + 1)
+      pub playing-past : m ≤ i → Run-at (set now at 3) cells n jobs m (o + 2) (at + 1)
       playing-past r =
           further (StepOf i) event (o + 2) (next-step list o here) 3 (w .going .state) (step-past (w .going .holds) i r) cells n jobs m
           (w .cells-fit) (w .going .holds)
 
       -- its next step stands at z, if its end u is not 0
       module _ (r : i < m) (d : StoredJob) (z : ℕ) (ez : z ≡ getD jobs i d .at) (u : ℕ) (eu : u ≡ stepEnd b z) where
-        pub playing-over : u ≡ 0 → Playing b c shapes offsets starts list room-cells room-jobs before (set now at 2) cells n jobs m (o + 2) (at + 1)
+        pub playing-over : u ≡ 0 → Run-at (set now at 2) cells n jobs m (o + 2) (at + 1)
         playing-over e =
             further (StepOf i) event (o + 2) (next-step list o here) 2 (w .going .state)
             (step-none (w .going .holds) i d r (rw (← ez) (sym (Decoded.step-none b z u eu e)))) cells n jobs m (w .cells-fit) (w .going .holds)
@@ -175,7 +179,7 @@ module _ {b : List ℕ} {c : Label} {shapes offsets starts list room-cells room-
         pub known : f ≡ such (parse b .c) (shapeIn shapes) (length starts) n e
         known = rw (← w .setting .c-is) ef
 
-        pub playing-none : f ≡ false → Playing b c shapes offsets starts list room-cells room-jobs before (set now at 3) cells n jobs m p (at + 1)
+        pub playing-none : f ≡ false → Run-at (set now at 3) cells n jobs m p (at + 1)
         playing-none t =
             further e ee p ep 3 (w .going .state)
             (act-none b (shapeIn shapes) (w .setting .shapes-are) (length starts) (blocks-count b starts (w .setting .starts-are)) (w .going .state) e
