@@ -47,7 +47,8 @@ use Rattle.interpreter.proofs.Opened.{opened}
 use Rattle.interpreter.proofs.Finishing.{finish-is}
 
 -- of the memory lent for the tables only its length matters
-pub record Playing (b : List ℕ) (c : Label) (shapes offsets starts list room-cells room-jobs before now : List ℕ) (cells : List StoredCell) (n : ℕ) (jobs : List StoredJob) (m o at : ℕ) : Type 0 where
+pub record Playing (b : List ℕ) (c : Label) (shapes offsets starts list room-cells room-jobs before now : List ℕ) (cells : List StoredCell)
+    (n : ℕ) (jobs : List StoredJob) (m o at : ℕ) : Type 0 where
   pub bound : Label
   pub setting : Ready b c shapes offsets starts bound list room-cells room-jobs before
   pub going : Going b list before now cells n jobs m at o

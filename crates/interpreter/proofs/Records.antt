@@ -46,7 +46,8 @@ pub saved-cells : (K : Book) (shapes : List ℕ) (l : List StoredCell) (hs : Lis
 unfolding savedCells
 saved-cells K shapes l hs are e =
     ap cellTable
-    (through cellOf (cellBy K) (cellRecordIn shapes) (λ c. ap (λ (x : Shape). record { shape = c .shape; trust = x .trust; label = c .label; value = storedRecord (storedContent c) }) (are (c .shape))
+    (through cellOf (cellBy K) (cellRecordIn shapes)
+    (λ c. ap (λ (x : Shape). record { shape = c .shape; trust = x .trust; label = c .label; value = storedRecord (storedContent c) }) (are (c .shape))
     ∙ ap (λ (v : ValueRecord). record { shape = c .shape; trust = statedTrust K (c .shape); label = c .label; value = v }) (stored-is (storedContent c))) l ∙ ap (map (cellBy K)) e
     ∙ sym (through (cellImage source) (cellBy K) (cellRecord K) (λ c. refl) hs))
 

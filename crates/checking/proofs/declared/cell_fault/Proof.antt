@@ -11,10 +11,12 @@ use Rattle.checking.proofs.declared.cell_fault.Tie as tie
 use Rattle.checking.proofs.declared.cell_fault.Statement.{statement}
 
 abbrev Inv-loop : tie.InvT-loop
-Inv-loop book shapes shaped bounds c cells i₀ i = (i ≤ length cells) × (cellFault (tableView c shapes shaped bounds) book (drop i cells) ≡ cellFault (tableView c shapes shaped bounds) book cells)
+Inv-loop book shapes shaped bounds c offsets i₀ i =
+    let B = tableView c shapes shaped bounds in
+    (i ≤ length offsets) × (cellFault B book (drop i offsets) ≡ cellFault B book offsets)
 
 abbrev μ-loop : tie.MeasureT-loop
-μ-loop book shapes shaped bounds c cells i₀ i = length cells - i
+μ-loop book shapes shaped bounds c offsets i₀ i = length offsets - i
 
 pub cell-fault-spec : {M : Type 1} → statement M
 cell-fault-spec =
