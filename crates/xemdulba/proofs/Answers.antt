@@ -2,8 +2,9 @@
 --     checks, founds            what each call answers
 --     check-fits, found-fits    its numbers have 32 bits
 --     answers-fit               a number below 2 ^ 32 has 32 bits
+--     tells                     what is told of an offset
 -- Assumes nothing.
-use mathlib.Core.Path.{_≡_}
+use mathlib.Core.Path.{_≡_, ap, _∙_}
 use mathlib.Core.List.{List}
 use Prim.Native.Nat.{ℕ, _<_}
 use native.Mathlib.Omega.{arith}
@@ -19,7 +20,9 @@ use Rattle.typing.specs.declared.Verdict.{Verdict}
 use Rattle.typing.specs.declared.Verdict.the-variants.{Accepted, Refused}
 use Rattle.typing.specs.Verdict.{verdict}
 use Rattle.typing.proofs.Bounds.{verdict-place, verdict-counts}
-use Rattle.xemdulba.specs.Calls.{checked, foundBy, found}
+use Rattle.listing.specs.declared.Fields.{Fields}
+use Rattle.xemdulba.specs.declared.Told.{Told}
+use Rattle.xemdulba.specs.Calls.{checked, foundBy, found, fieldsTold}
 
 pub answers-fit : (n : ℕ) → n < 4294967296 → Fits w32 n
 answers-fit n h = fits-under w32 n 4294967296 h tt
@@ -78,3 +81,6 @@ module _ (s : List ℕ) (i : ℕ) (f : Found) (ef : f ≡ foundBlock s i) where
 pub ruleset founds = (found-refused, found-there)
 
 pub ruleset found-fits = (found-at, found-start, found-length)
+
+pub tells : (r : Told) (f g : Fields) → r ≡ fieldsTold f → f ≡ g → r ≡ fieldsTold g
+tells r f g er ef = er ∙ ap fieldsTold ef

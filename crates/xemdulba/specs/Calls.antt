@@ -1,6 +1,7 @@
 -- The library for other languages: each answer as numbers of 32 bits.
 --     checked, found         the verdict on a book; a block's stretch
 --     Call, called           a run: what is answered, and what the lent memory holds after the call
+--     fieldsTold             the record or the event at an offset
 -- Assumes nothing.
 use Prim.Native.Nat.{ℕ}
 use mathlib.Core.List.{List}
@@ -11,9 +12,11 @@ use Rattle.book.specs.declared.Found.{Found}
 use Rattle.typing.specs.declared.Verdict.{Verdict}
 use Rattle.typing.specs.declared.Verdict.the-variants.{Accepted, Refused}
 use Rattle.interpreter.specs.Run.{Run}
+use Rattle.listing.specs.declared.Fields.{Fields}
 use Rattle.xemdulba.specs.declared.Checked.{Checked}
 use Rattle.xemdulba.specs.declared.Ran.{Ran}
 use Rattle.xemdulba.specs.declared.Stretch.{Stretch}
+use Rattle.xemdulba.specs.declared.Told.{Told}
 
 -- 0 stands for acceptance
 unfoldable pub checked : Verdict → Checked
@@ -47,4 +50,16 @@ called x =
       cells = x .cells;
       jobs = x .jobs;
       answered = x .answered;
+    }
+
+-- the same numbers; kind 0 stands for nothing
+abbrev pub fieldsTold : Fields → Told
+fieldsTold f =
+    record {
+      kind = f .kind;
+      first = f .first;
+      second = f .second;
+      third = f .third;
+      number = f .number;
+      next = f .next;
     }

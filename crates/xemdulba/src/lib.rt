@@ -1,11 +1,13 @@
 // The library for other languages: include/xemdulba.h declares it.
 use book::Refusal;
+use listing::Fields;
 use typing::Verdict;
 ghost use mathlib.Core.Path.{_≡_};
 ghost use Rattle.book.specs.Stretch.{foundBlock};
 ghost use Rattle.typing.specs.Verdict.{verdict};
 ghost use Rattle.interpreter.specs.Run.{ran};
-ghost use Rattle.xemdulba.specs.Calls.{checked, found, Call, called};
+ghost use Rattle.listing.specs.Fields.{recordFields, eventFields};
+ghost use Rattle.xemdulba.specs.Calls.{checked, found, Call, called, fieldsTold};
 
 // The verdict on a book: refusal 0 where it is accepted. On a refusal the counts are 0.
 #[repr(C)]
@@ -34,6 +36,18 @@ pub struct Ran {
     pub place: u32,
     pub cells: u32,
     pub jobs: u32,
+}
+
+// What stands at an offset: its kind, its fields of one byte in their order, its number, and the offset of what follows. What the kind
+// does not have is 0, and all is 0 where nothing whole stands.
+#[repr(C)]
+pub struct Told {
+    pub kind: u32,
+    pub first: u32,
+    pub second: u32,
+    pub third: u32,
+    pub number: u32,
+    pub next: usize,
 }
 
 // Checks a book. Writes nothing.
@@ -144,4 +158,39 @@ pub extern "C" fn xemdulba_run(
             }
         }
     }
+}
+
+fn tell(f: Fields) -> Told
+    ensures { λ r. ⌜ r ≡ fieldsTold f ⌝ }
+{
+    let kind = f.kind as u32;
+    let first = f.first as u32;
+    let second = f.second as u32;
+    let third = f.third as u32;
+    Told {
+        kind: kind,
+        first: first,
+        second: second,
+        third: third,
+        number: f.number,
+        next: f.next,
+    }
+}
+
+// Tells the record at an offset of a book. Writes nothing.
+#[no_mangle]
+pub extern "C" fn xemdulba_record(book: &[u8], offset: usize) -> Told
+    ensures { λ r. ⌜ r ≡ fieldsTold (recordFields (now (book .entry)) offset) ⌝ }
+{
+    let f = listing::record(book, offset);
+    tell(f)
+}
+
+// Tells the event at an offset of a list. Writes nothing.
+#[no_mangle]
+pub extern "C" fn xemdulba_event(list: &[u8], offset: usize) -> Told
+    ensures { λ r. ⌜ r ≡ fieldsTold (eventFields (now (list .entry)) offset) ⌝ }
+{
+    let f = listing::event(list, offset);
+    tell(f)
 }
