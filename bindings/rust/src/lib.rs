@@ -18,6 +18,7 @@
 #![deny(unsafe_code)]
 
 mod answer;
+mod fields;
 #[allow(unsafe_code)]
 mod library;
 mod records;
@@ -25,11 +26,18 @@ mod tables;
 mod verdict;
 
 pub use answer::Answer;
+pub use fields::{event, record, Fields};
 pub use records::{Cell, Job, Kind, Label, Trust, Value, REGISTERS};
 pub use tables::{Record, Records, Tables, CELLS_SIZE, JOBS_SIZE, TABLE};
 pub use verdict::{Counts, Refusal};
 
 use std::ops::Range;
+
+/// The version of this library.
+pub const VERSION: &str = env!("CARGO_PKG_VERSION");
+
+/// The identity of the kit that proved the library which is linked, as `rt version` prints it.
+pub const KIT: &str = env!("XEMDULBA_KIT");
 
 /// Checks a book: refused by 1 to 8, or accepted with its counts.
 pub fn check(book: &[u8]) -> Result<Counts, Refusal> {

@@ -35,10 +35,25 @@ pub struct Ran {
     pub jobs: u32,
 }
 
+/// What stands at an offset; kind 0 where nothing whole does.
+#[repr(C)]
+pub struct Told {
+    pub kind: u32,
+    pub first: u32,
+    pub second: u32,
+    pub third: u32,
+    pub number: u32,
+    pub next: usize,
+}
+
 extern "C" {
     fn xemdulba_check(book: *const u8, length: usize) -> Checked;
 
     fn xemdulba_block(book: *const u8, length: usize, block: u32) -> Stretch;
+
+    fn xemdulba_record(book: *const u8, length: usize, offset: usize) -> Told;
+
+    fn xemdulba_event(list: *const u8, length: usize, offset: usize) -> Told;
 
     fn xemdulba_run(
         book: *const u8,
@@ -62,6 +77,16 @@ pub fn check(book: &[u8]) -> Checked {
 pub fn block(book: &[u8], block: u32) -> Stretch {
     // SAFETY: pointer and length are those of a slice.
     unsafe { xemdulba_block(book.as_ptr(), book.len(), block) }
+}
+
+pub fn record(book: &[u8], offset: usize) -> Told {
+    // SAFETY: pointer and length are those of a slice; any offset may be asked for.
+    unsafe { xemdulba_record(book.as_ptr(), book.len(), offset) }
+}
+
+pub fn event(list: &[u8], offset: usize) -> Told {
+    // SAFETY: pointer and length are those of a slice; any offset may be asked for.
+    unsafe { xemdulba_event(list.as_ptr(), list.len(), offset) }
 }
 
 pub fn run(book: &[u8], list: &[u8], cells: &mut [u8], jobs: &mut [u8], answers: &mut [u8]) -> Ran {
