@@ -1,27 +1,11 @@
-/* Xemdulba: checks a control job book before it runs, and runs it. Link target/staticlib/libxemdulba.a, which
- * `rt staticlib xemdulba` writes.
+/* Xemdulba: checks a control job book before it runs, and runs it. Link libxemdulba.a: `rt staticlib xemdulba` proves it and writes
+ * target/staticlib/libxemdulba.a.
  *
- * Every call returns on every input and answers what the proved definitions say. xemdulba_check and xemdulba_block write to no memory
- * that they are lent; xemdulba_run writes to its two tables and its answers alone. A book is any bytes, and so is an event list; a
- * pointer may be any address, not null, where its length is 0. Every number is the definitions' own: it is proved that it fits in 32
- * bits. No start or length is above 32,768, and no place above 32,768, or 65,536 for refusal 9. No call uses a heap or keeps a state.
- * How much stack a call uses was measured, not proved: see bench/run.
- *
- * The refusals, each with the place of the first record at fault, as an offset of the book, or of the event list for 9:
- *   1   the book is longer than 32,768 bytes; place 0
- *   2   a kind is none of the format's, or the book ends inside a body
- *   3   the first record is missing or not C, a record is out of order, or no block stands (place: the book's length, 0 if it is empty)
- *   4   a record is beyond 32 shapes, 32 cells, 64 blocks or 64 steps in a block
- *   5   a label, bound or trust is above 15, C above 14, a register above 7, or a value kind above 2
- *   6   a content shape is not lower-numbered than its cell shape, a cell or new names no cell shape, or a declared cell or block
- *       number does not exist
- *   7   a cell declaration breaks its typing rule
- *   8   a step breaks its typing rule
- *   9   the event list is longer than 65,536 bytes (place 0), or an event has an unknown kind or a cut body
- *   10  the cell table has not exactly 576 bytes, or the job table not exactly 3,328; place 0
- *   11  the answer buffer has fewer bytes than the list has events; place 0
- *   12  the block asked for does not exist; place 0
- * The first in this order that holds is the one that is reported.
+ * Every call returns on every input and answers what the proved definitions say. xemdulba_run writes to its two tables and its answers
+ * alone; xemdulba_check, xemdulba_block, xemdulba_record and xemdulba_event write to no memory that they are lent. A book is any bytes,
+ * and so is an event list; a pointer may be any address, not null, where its length is 0. Every number is the definitions' own: it is
+ * proved that it fits in 32 bits, and an offset in a size_t. No start or length is above 32,768, and no place above 32,768, or 65,536
+ * for refusal 9. No call uses a heap or keeps a state. How much stack a call uses was measured, not proved: see bench/run.
  */
 #ifndef XEMDULBA_H
 #define XEMDULBA_H
@@ -32,6 +16,41 @@
 #ifdef __cplusplus
 extern "C" {
 #endif
+
+/* The version that this header declares. */
+#define XEMDULBA_VERSION "0.1.0"
+
+/* The refusals, and what the rule of each says. A refusal has a place: the offset of the first record at fault in the book, or of the
+ * first event at fault in the list for 9. It is 0 for 1 and for 10 to 12, where a list is too long, and where the first record is
+ * missing, and the book's length where no block stands. The first in this order that holds is the one that is reported. */
+enum xemdulba_refusal {
+    XEMDULBA_NOT_REFUSED = 0,
+    /* the book is longer than 32768 bytes */
+    XEMDULBA_REFUSED_TOO_LONG = 1,
+    /* a kind is none of the format's, or the book ends inside a record */
+    XEMDULBA_REFUSED_UNREADABLE = 2,
+    /* the first record is missing or not C, a record is out of order, or no block stands */
+    XEMDULBA_REFUSED_ORDER = 3,
+    /* a record is beyond 32 shapes, 32 cells, 64 blocks or 64 steps in a block */
+    XEMDULBA_REFUSED_TOO_MANY = 4,
+    /* a label, bound or trust is above 15, C above 14, a register above 7, or a value kind above 2 */
+    XEMDULBA_REFUSED_TOO_HIGH = 5,
+    /* a content shape is not lower-numbered than its cell shape, a cell or new names no cell shape, or a cell or block number does not
+     * exist */
+    XEMDULBA_REFUSED_NO_SUCH = 6,
+    /* a cell declaration breaks its typing rule */
+    XEMDULBA_REFUSED_CELL = 7,
+    /* a step breaks its typing rule */
+    XEMDULBA_REFUSED_STEP = 8,
+    /* the event list is longer than 65536 bytes, an event's kind is unknown, or the list ends inside an event */
+    XEMDULBA_REFUSED_EVENTS = 9,
+    /* the cell table has not exactly 576 bytes, or the job table not exactly 3328 */
+    XEMDULBA_REFUSED_TABLES = 10,
+    /* the answer buffer has fewer bytes than the list has events */
+    XEMDULBA_REFUSED_ANSWERS = 11,
+    /* the block asked for does not exist */
+    XEMDULBA_REFUSED_BLOCK = 12
+};
 
 /* The verdict on a book. Accepted: refusal 0, place 0, and how many shapes, cells, blocks and steps the book has. Refused, by 1 to 8:
  * the number and the place, and the counts are 0. */
@@ -62,6 +81,18 @@ struct xemdulba_ran {
     uint32_t jobs;
 };
 
+/* What stands at an offset of a book or a list: its kind, its fields of one byte in their order, its number, and the offset past it,
+ * which is that of the next. Fields that the kind does not have are 0, and so is the number. Where nothing whole stands, because the
+ * kind is unknown, the bytes end inside it, or the offset is not below the length, all six are 0; 0 is no kind. */
+struct xemdulba_told {
+    uint32_t kind;
+    uint32_t first;
+    uint32_t second;
+    uint32_t third;
+    uint32_t number;
+    size_t next;
+};
+
 /* The tables that a run leaves hold 64 records each, those in use first, in the order in which they came to be, and zeros behind them.
  * A number of 4 bytes is little-endian.
  *   value, 6 bytes    kind (0 plain, 1 cell, 2 code), number (4 bytes), source
@@ -78,6 +109,18 @@ struct xemdulba_checked xemdulba_check(const uint8_t *book, size_t length);
 
 /* Finds the stretch of the block of this number, from 0. It answers for every book that can be read, accepted or not. */
 struct xemdulba_stretch xemdulba_block(const uint8_t *book, size_t length, uint32_t block);
+
+/* Tells the record at an offset of a book. Any bytes and any offset have an answer, also a book that is refused, or longer than 32,768
+ * bytes. From offset 0, `next` leads through the whole book: it is the length behind the last record. The fields of a kind:
+ *   1 C: label                  16 plain shape: none        17 code shape: bound        18 cell shape: content shape, trust
+ *   32 cell: shape, label, value kind, number               48 block: bound
+ *   64 put: r, number           65 name: r, cell            66 code: r, block           67 add: r, a, b
+ *   68 new: r, shape, a         69 read: r, w               70 write: w, a              71 relabel: w, label
+ *   72 lower: label             73 start: block             74 exec: w */
+struct xemdulba_told xemdulba_record(const uint8_t *book, size_t length, size_t offset);
+
+/* Tells the event at an offset of a list, as xemdulba_record tells a record; xemdulba_run has the fields of a kind. */
+struct xemdulba_told xemdulba_event(const uint8_t *list, size_t length, size_t offset);
 
 /* Runs the events of a list on a book from its start, whether or not the book is accepted. An event is its kind and then its fields, of
  * one byte each but for a number of 4:

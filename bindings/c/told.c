@@ -1,0 +1,75 @@
+/* A test of what the header declares, in C and in C++: the two calls tell records and events by the tables of docs/FORMAT.md, and the
+ * refusals have their numbers. Prints each difference; exit status 0 if there is none. */
+#include "xemdulba.h"
+
+#include <stdint.h>
+#include <stdio.h>
+
+static int failures;
+
+static void expect(const char *name, struct xemdulba_told told, uint32_t kind, uint32_t first, uint32_t second, uint32_t third,
+                   uint32_t number, size_t next)
+{
+    if (told.kind != kind || told.first != first || told.second != second || told.third != third || told.number != number ||
+        told.next != next) {
+        printf("%s is told otherwise\n", name);
+        failures++;
+    }
+}
+
+/* A cell, and the first bytes of a put. */
+static void tell_records(void)
+{
+    static const uint8_t book[] = {0x01, 0x03, 0x20, 0x01, 0x09, 0x02, 0x78, 0x56, 0x34, 0x12, 0x40, 0x07};
+
+    expect("C", xemdulba_record(book, sizeof book, 0), 1, 3, 0, 0, 0, 2);
+    expect("a cell", xemdulba_record(book, sizeof book, 2), 32, 1, 9, 2, 0x12345678, 10);
+    expect("an unknown kind", xemdulba_record(book, sizeof book, 1), 0, 0, 0, 0, 0, 0);
+    expect("a cut put", xemdulba_record(book, sizeof book, 10), 0, 0, 0, 0, 0, 0);
+    expect("the end", xemdulba_record(book, sizeof book, sizeof book), 0, 0, 0, 0, 0, 0);
+    expect("far past the end", xemdulba_record(book, sizeof book, SIZE_MAX), 0, 0, 0, 0, 0, 0);
+    expect("no book", xemdulba_record(book, 0, 0), 0, 0, 0, 0, 0, 0);
+}
+
+static void tell_events(void)
+{
+    static const uint8_t list[] = {0x50, 0x3F, 0x51, 0x03, 0x00, 0x01, 0xFF, 0xFF, 0xFF, 0xFF, 0x52, 0x03, 0x00, 0x04, 0x53, 0x03};
+
+    expect("a step", xemdulba_event(list, sizeof list, 0), 80, 63, 0, 0, 0, 2);
+    expect("a write", xemdulba_event(list, sizeof list, 2), 81, 3, 0, 1, 0xFFFFFFFF, 10);
+    expect("a relabel", xemdulba_event(list, sizeof list, 10), 82, 3, 0, 4, 0, 14);
+    expect("a cut new", xemdulba_event(list, sizeof list, 14), 0, 0, 0, 0, 0, 0);
+    expect("far past the end", xemdulba_event(list, sizeof list, SIZE_MAX), 0, 0, 0, 0, 0, 0);
+}
+
+/* The numbers of docs/FORMAT.md. */
+static void number_refusals(void)
+{
+    static const int numbers[] = {
+        XEMDULBA_NOT_REFUSED,      XEMDULBA_REFUSED_TOO_LONG, XEMDULBA_REFUSED_UNREADABLE, XEMDULBA_REFUSED_ORDER,
+        XEMDULBA_REFUSED_TOO_MANY, XEMDULBA_REFUSED_TOO_HIGH, XEMDULBA_REFUSED_NO_SUCH,    XEMDULBA_REFUSED_CELL,
+        XEMDULBA_REFUSED_STEP,     XEMDULBA_REFUSED_EVENTS,   XEMDULBA_REFUSED_TABLES,     XEMDULBA_REFUSED_ANSWERS,
+        XEMDULBA_REFUSED_BLOCK,
+    };
+    static const uint8_t no_block[] = {0x01, 0x03};
+    int i;
+
+    for (i = 0; i <= 12; i++) {
+        if (numbers[i] != i) {
+            printf("refusal %d has the number %d\n", i, numbers[i]);
+            failures++;
+        }
+    }
+    if (xemdulba_check(no_block, sizeof no_block).refusal != XEMDULBA_REFUSED_ORDER) {
+        printf("a book without a block is not refused as out of order\n");
+        failures++;
+    }
+}
+
+int main(void)
+{
+    tell_records();
+    tell_events();
+    number_refusals();
+    return failures == 0 ? 0 : 1;
+}
