@@ -1,6 +1,7 @@
 //! Two implementations on the same inputs by chance.
 
 use reference::cases::differ;
+use reference::cases::runs::Run;
 use reference::model::book::Refusal;
 use reference::model::machine::{Lent, Outcome, Runner};
 use reference::Verdict;
@@ -17,6 +18,24 @@ pub struct Tally {
 impl Tally {
     fn count_refusal(&mut self, number: u8) {
         self.refusals[usize::from(number)] += 1;
+    }
+
+    pub fn count_verdict(&mut self, verdict: &Verdict) {
+        self.count_refusal(match verdict {
+            Verdict::Accepted { .. } => 0,
+            Verdict::Refused { number, .. } => *number,
+        });
+    }
+
+    pub fn count_run(&mut self, (outcome, [_, _, answers]): &Side) {
+        let refusal = outcome.as_ref().err();
+        self.count_refusal(refusal.map_or(0, |refusal| refusal.number));
+        self.count_answers(answers);
+    }
+
+    /// How many were compared.
+    pub fn count(&self) -> usize {
+        self.refusals.iter().sum()
     }
 
     /// Bytes beyond the events are no answers: they hold what they held before.
@@ -51,12 +70,15 @@ pub struct Difference(pub String);
 /// Compares so many runs: what each answers, and all the lent memory.
 pub fn runs(seed: u64, count: usize, one: Runner, other: Runner) -> Result<Tally, Difference> {
     let mut tally = Tally::default();
-    let found = differ::differ(seed, count, one, other, |(outcome, [_, _, answers])| {
-        let refusal = outcome.as_ref().err();
-        tally.count_refusal(refusal.map_or(0, |refusal| refusal.number));
-        tally.count_answers(answers);
-    });
-    found.map_or(Ok(tally), |found| Err(different_run(&found)))
+    let found = differ::differ(seed, count, one, other, |outcome| tally.count_run(outcome));
+    found.map_or(Ok(tally), |found| {
+        Err(different_run(
+            found.number,
+            &found.run,
+            &found.one,
+            &found.other,
+        ))
+    })
 }
 
 /// What a book is answered: the verdict, and the offset and length of a block's stretch.
@@ -66,7 +88,7 @@ pub type Checked = (Verdict, Result<(usize, usize), Refusal>);
 pub type Checker = fn(&[u8], usize) -> Checked;
 
 /// The blocks asked for in turn; the last two never exist.
-const ASKED_BLOCKS: usize = 66;
+pub const ASKED_BLOCKS: usize = 66;
 
 /// Compares so many books.
 pub fn books(seed: u64, count: usize, one: Checker, other: Checker) -> Result<Tally, Difference> {
@@ -80,31 +102,31 @@ pub fn books(seed: u64, count: usize, one: Checker, other: Checker) -> Result<Ta
                 "number {number}\nbook {book}\nblock {block}\none {one:?}\nother {other:?}"
             )));
         }
-        tally.count_refusal(match one.0 {
-            Verdict::Accepted { .. } => 0,
-            Verdict::Refused { number, .. } => number,
-        });
+        tally.count_verdict(&one.0);
     }
     Ok(tally)
 }
 
-fn different_run(found: &differ::Difference) -> Difference {
+/// A run that two answer otherwise, in words.
+pub fn different_run(number: usize, run: &Run, one: &Side, other: &Side) -> Difference {
     Difference(format!(
-        "number {}\nbook {}\nevents {}\nlengths {:?}\none {}\nother {}",
-        found.number,
-        hex(&found.run.book),
-        hex(&found.run.events),
-        found.run.lengths,
-        side(&found.one),
-        side(&found.other)
+        "number {number}\nbook {}\nevents {}\nlengths {:?}\none {}\nother {}",
+        hex(&run.book),
+        hex(&run.events),
+        run.lengths,
+        side(one),
+        side(other)
     ))
 }
 
-fn side((outcome, [cells, jobs, answers]): &(Outcome, Lent)) -> String {
+/// What a run answers, and the lent memory after it.
+type Side = (Outcome, Lent);
+
+fn side((outcome, [cells, jobs, answers]): &Side) -> String {
     let [cells, jobs, answers] = [cells, jobs, answers].map(|bytes| hex(bytes));
     format!("{outcome:?}\n  cells {cells}\n  jobs {jobs}\n  answers {answers}")
 }
 
-fn hex(bytes: &[u8]) -> String {
+pub fn hex(bytes: &[u8]) -> String {
     bytes.iter().map(|byte| format!("{byte:02x}")).collect()
 }

@@ -1,5 +1,9 @@
 //! The verified library with the reference's answers.
 
+mod told;
+
+pub use told::{event, record};
+
 use reference::model::book::{self, Refusal};
 use reference::model::machine::{Lent, Outcome, Ran};
 use reference::Verdict;

@@ -2,6 +2,8 @@
 //! interface, on so many runs and so many books by chance. Exit status: 0 no difference, 1 a
 //! difference, which is printed, 2 no answer.
 
+#[cfg(test)]
+mod chosen;
 mod compare;
 #[cfg(test)]
 mod tests;

@@ -2,7 +2,7 @@
 //! refusal 12.
 
 mod fields;
-pub(crate) mod record;
+pub mod record;
 #[cfg(test)]
 pub(crate) mod tests;
 

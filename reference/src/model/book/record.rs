@@ -3,6 +3,7 @@
 use super::{refuse, DeclaredCell, Refusal, Shape, Step};
 
 /// What a record says.
+#[derive(Clone, Copy, Debug, PartialEq, Eq)]
 pub enum Content {
     C(u8),
     Shape(Shape),
@@ -37,7 +38,7 @@ pub fn split(bytes: &[u8]) -> Result<Vec<Record>, Refusal> {
 }
 
 /// The record at the head of `rest`, with its size; none if its kind is unknown or its body cut.
-fn decode(place: usize, rest: &[u8]) -> Option<(Content, usize)> {
+pub fn decode(place: usize, rest: &[u8]) -> Option<(Content, usize)> {
     match *rest {
         [1, c, ..] => Some((Content::C(c), 2)),
         [16, ..] => Some((Content::Shape(Shape::Plain), 1)),

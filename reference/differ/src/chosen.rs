@@ -1,0 +1,85 @@
+//! The reference's own test books and runs, all of them.
+
+use crate::compare::{different_run, hex, Checker, Difference, Tally, ASKED_BLOCKS};
+use reference::cases::{check_books, generate, runs};
+use reference::model::book::record;
+use reference::model::machine::{event, Runner};
+use std::fmt::Debug;
+
+/// Compares every test book: its verdict, the stretch of each block and of two that never exist,
+/// and what stands at each offset.
+pub fn books(one: Checker, other: Checker) -> Result<Tally, Difference> {
+    let mut tally = Tally::default();
+    for book in generate::books().iter().chain(&check_books::books()) {
+        for block in 0..ASKED_BLOCKS {
+            same(
+                book,
+                &format!("block {block}"),
+                one(book, block),
+                other(book, block),
+            )?;
+        }
+        records(book)?;
+        tally.count_verdict(&one(book, 0).0);
+    }
+    Ok(tally)
+}
+
+/// Compares every test run: what it answers, all the lent memory, and the event at each offset.
+pub fn runs(one: Runner, other: Runner) -> Result<Tally, Difference> {
+    let mut tally = Tally::default();
+    for (number, run) in runs::all().into_iter().enumerate() {
+        let (one, other) = (runs::outcome(one, &run), runs::outcome(other, &run));
+        if one != other {
+            return Err(different_run(number, &run, &one, &other));
+        }
+        events(&run.events)?;
+        tally.count_run(&one);
+    }
+    Ok(tally)
+}
+
+/// Every offset, and the first two past the end.
+fn records(book: &[u8]) -> Result<(), Difference> {
+    for place in 0..book.len() + 2 {
+        let rest = book.get(place..).unwrap_or_default();
+        let expected = record::decode(place, rest);
+        same(
+            book,
+            &format!("offset {place}"),
+            verified::record(book, place),
+            expected,
+        )?;
+    }
+    Ok(())
+}
+
+fn events(list: &[u8]) -> Result<(), Difference> {
+    for place in 0..list.len() + 2 {
+        let rest = list.get(place..).unwrap_or_default();
+        let expected =
+            event::decode(rest).map(|(event, behind)| (event, rest.len() - behind.len()));
+        same(
+            list,
+            &format!("offset {place}"),
+            verified::event(list, place),
+            expected,
+        )?;
+    }
+    Ok(())
+}
+
+fn same<T: Debug + PartialEq>(
+    bytes: &[u8],
+    asked: &str,
+    one: T,
+    other: T,
+) -> Result<(), Difference> {
+    if one == other {
+        return Ok(());
+    }
+    let bytes = hex(bytes);
+    Err(Difference(format!(
+        "bytes {bytes}\n{asked}\none {one:?}\nother {other:?}"
+    )))
+}
