@@ -1,11 +1,13 @@
-/* Xemdulba: checks a control job book before it runs, and runs it. Link libxemdulba.a: `rt staticlib xemdulba` proves it and writes
- * target/staticlib/libxemdulba.a.
+/* Xemdulba: checks a control job book before it runs, runs it, and tells its records one by one. Link libxemdulba.a: `rt staticlib
+ * xemdulba` proves it and writes target/staticlib/libxemdulba.a.
  *
  * Every call returns on every input and answers what the proved definitions say. xemdulba_run writes to its two tables and its answers
  * alone; xemdulba_check, xemdulba_block, xemdulba_record and xemdulba_event write to no memory that they are lent. A book is any bytes,
- * and so is an event list; a pointer may be any address, not null, where its length is 0. Every number is the definitions' own: it is
- * proved that it fits in 32 bits, and an offset in a size_t. No start or length is above 32,768, and no place above 32,768, or 65,536
- * for refusal 9. No call uses a heap or keeps a state. How much stack a call uses was measured, not proved: see bench/run.
+ * and so is an event list. A pointer is that of so many bytes as its length says, which nobody else changes during the call; where the
+ * length is 0 it may be any address, not null. A length is below 2^63, as that of any object is. Every number is the definitions' own:
+ * it is proved that it fits in 32 bits, and an offset in a size_t. No start or length of a stretch is above 32,768, and no place above
+ * 32,768, or 65,536 for refusal 9. No call uses a heap or keeps a state. How much stack a call uses was measured, not proved: see
+ * bench/run.
  */
 #ifndef XEMDULBA_H
 #define XEMDULBA_H
@@ -82,8 +84,9 @@ struct xemdulba_ran {
 };
 
 /* What stands at an offset of a book or a list: its kind, its fields of one byte in their order, its number, and the offset past it,
- * which is that of the next. Fields that the kind does not have are 0, and so is the number. Where nothing whole stands, because the
- * kind is unknown, the bytes end inside it, or the offset is not below the length, all six are 0; 0 is no kind. */
+ * which is that of the next. Fields that the kind does not have are 0, and so is the number; the others are told as they stand, also
+ * above their limits. Where nothing whole stands, because the kind is unknown, the bytes end inside it, or the offset is not below the
+ * length, all six are 0, `next` too; 0 is no kind. */
 struct xemdulba_told {
     uint32_t kind;
     uint32_t first;
@@ -110,8 +113,10 @@ struct xemdulba_checked xemdulba_check(const uint8_t *book, size_t length);
 /* Finds the stretch of the block of this number, from 0. It answers for every book that can be read, accepted or not. */
 struct xemdulba_stretch xemdulba_block(const uint8_t *book, size_t length, uint32_t block);
 
-/* Tells the record at an offset of a book. Any bytes and any offset have an answer, also a book that is refused, or longer than 32,768
- * bytes. From offset 0, `next` leads through the whole book: it is the length behind the last record. The fields of a kind:
+/* Tells the record at an offset of a book, as if one began there: 0, or the `next` of the record before. Any bytes and any offset have
+ * an answer, also a book that is refused, or longer than 32,768 bytes. To go through a book, begin at 0 and go on at `next` while the
+ * kind is not 0; the book was read to its end if that is at its length, and else it cannot be read from there on (refusal 2).
+ * The fields of a kind:
  *   1 C: label                  16 plain shape: none        17 code shape: bound        18 cell shape: content shape, trust
  *   32 cell: shape, label, value kind, number               48 block: bound
  *   64 put: r, number           65 name: r, cell            66 code: r, block           67 add: r, a, b
@@ -119,7 +124,8 @@ struct xemdulba_stretch xemdulba_block(const uint8_t *book, size_t length, uint3
  *   72 lower: label             73 start: block             74 exec: w */
 struct xemdulba_told xemdulba_record(const uint8_t *book, size_t length, size_t offset);
 
-/* Tells the event at an offset of a list, as xemdulba_record tells a record; xemdulba_run has the fields of a kind. */
+/* Tells the event at an offset of a list, as xemdulba_record tells a record, also of a list that is longer than 65,536 bytes. The
+ * fields of a kind stand at xemdulba_run. */
 struct xemdulba_told xemdulba_event(const uint8_t *list, size_t length, size_t offset);
 
 /* Runs the events of a list on a book from its start, whether or not the book is accepted. An event is its kind and then its fields, of

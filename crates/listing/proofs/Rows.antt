@@ -14,9 +14,16 @@ rows =
     record {
       of-records = refl;
       of-events = refl;
+      end = refl;
       past = refl;
+      empty = refl;
+      below = refl;
+      above = refl;
       other-record = refl;
       other-event = refl;
-      cut-record = refl;
-      cut-event = refl;
+      cut-cell = refl;
+      cut-exec = refl;
+      cut-write = refl;
+      cut-start = refl;
+      largest = refl;
     }

@@ -28,7 +28,7 @@ fieldsEnd n numbered = if numbered then n - 4 else n
 unfoldable pub numberIf : Bool → List ℕ → ℕ → ℕ
 numberIf numbered s e = if numbered then numberAt s e else 0
 
--- "a kind of 0 where no whole record stands"
+-- "a kind of 0 where no whole record stands", and all else 0 too
 abbrev pub noFields : Fields
 noFields = record { kind = 0; first = 0; second = 0; third = 0; number = 0; next = 0 }
 
@@ -45,7 +45,7 @@ fieldsTo s o n numbered =
       next = n;
     }
 
--- by a span, and by which kinds have a number. Past the end the byte is 0, which is no kind.
+-- by a span, and by which kinds have a number: what stands at o if a record begins there. Past the end the byte is 0, which is no kind.
 unfoldable pub fieldsBy : (ℕ → ℕ) → (ℕ → Bool) → List ℕ → ℕ → Fields
 fieldsBy span numbered s o = if cutBy span s o then noFields else fieldsTo s o (nextBy span s o) (numbered (byteAt s o))
 

@@ -1,4 +1,4 @@
--- What is told of each kind of record and event, settled by `proofs/Rows.antt`. Every field is a byte of its own, so that none can stand for
+-- What is told of each kind of record and event, settled by `proofs/Rows.antt`. All bytes of a record differ, so that none can stand for
 -- another.
 --     row                          what is told, as one line
 --     everyRecord, everyEvent      the bytes of one of each
@@ -15,8 +15,8 @@ use Rattle.listing.specs.Fields.{noFields, recordFields, eventFields}
 abbrev pub row : ℕ → ℕ → ℕ → ℕ → ℕ → ℕ → Fields
 row k x y z n o = record { kind = k; first = x; second = y; third = z; number = n; next = o }
 
--- "1: C", "16 plain shape, no body; 17 code shape: bound; 18 cell shape: content shape, trust", "32 cell: shape, label, value kind, number",
--- "48 block: bound", and "64 put r, number; 65 name r, cell; 66 code r, block; 67 add r, a, b; 68 new r, shape, a; 69 read r, w; 70 write w, a;
+-- "1: C", "16 plain shape, no body; 17 code shape: bound; 18 cell shape: content shape, trust", "32 cell: shape, label, value kind .., number",
+-- "48 block: bound ..", and "64 put r, number; 65 name r, cell; 66 code r, block; 67 add r, a, b; 68 new r, shape, a; 69 read r, w; 70 write w, a;
 -- 71 relabel w, label; 72 lower label; 73 start block; 74 exec w"
 abbrev pub everyRecord : List ℕ
 everyRecord =
@@ -79,10 +79,19 @@ pub record Rows : Type 0 where
       ∷ row 84 11 12 0 0 25
       ∷ row 85 13 14 0 0 28
       ∷ []
-  -- past the end; a kind of events in a book, and of records in a list
-  pub past : recordFields everyRecord 53 ≡ noFields
+  -- at the end, past it, and in nothing
+  pub end : recordFields everyRecord 53 ≡ noFields
+  pub past : eventFields everyEvent 1000 ≡ noFields
+  pub empty : recordFields [] 0 ≡ noFields
+  -- no kind; a kind of events in a book, and of records in a list
+  pub below : recordFields (15 ∷ 0 ∷ []) 0 ≡ noFields
+  pub above : recordFields (75 ∷ 0 ∷ 0 ∷ 0 ∷ 0 ∷ []) 0 ≡ noFields
   pub other-record : recordFields everyEvent 0 ≡ noFields
   pub other-event : eventFields everyRecord 0 ≡ noFields
-  -- the last record, without its last byte
-  pub cut-record : recordFields (74 ∷ []) 0 ≡ noFields
-  pub cut-event : eventFields (85 ∷ 13 ∷ []) 0 ≡ noFields
+  -- all but the last byte
+  pub cut-cell : recordFields (32 ∷ 1 ∷ 2 ∷ 3 ∷ 4 ∷ 5 ∷ 6 ∷ []) 0 ≡ noFields
+  pub cut-exec : recordFields (74 ∷ []) 0 ≡ noFields
+  pub cut-write : eventFields (81 ∷ 1 ∷ 2 ∷ 3 ∷ 4 ∷ 5 ∷ 6 ∷ []) 0 ≡ noFields
+  pub cut-start : eventFields (85 ∷ 13 ∷ []) 0 ≡ noFields
+  -- the largest number
+  pub largest : recordFields (64 ∷ 255 ∷ 255 ∷ 255 ∷ 255 ∷ 255 ∷ []) 0 ≡ row 64 255 0 0 0xFFFFFFFF 6

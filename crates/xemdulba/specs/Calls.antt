@@ -1,4 +1,4 @@
--- The library for other languages: each answer as numbers of 32 bits.
+-- The library for other languages: each answer as numbers, of 32 bits but for the offset of what follows.
 --     checked, found         the verdict on a book; a block's stretch
 --     Call, called           a run: what is answered, and what the lent memory holds after the call
 --     fieldsTold             the record or the event at an offset
