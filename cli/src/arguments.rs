@@ -1,0 +1,270 @@
+//! The words behind the command's name.
+
+use crate::files::{self, Form};
+use crate::help;
+use crate::nearest::nearest;
+use std::ffi::{OsStr, OsString};
+
+#[derive(Clone, Copy, Debug, PartialEq, Eq)]
+pub enum Verb {
+    Check,
+    Run,
+    List,
+    Events,
+    Help,
+}
+
+impl Verb {
+    const ALL: [Verb; 5] = [Verb::Check, Verb::Run, Verb::List, Verb::Events, Verb::Help];
+
+    pub fn name(self) -> &'static str {
+        match self {
+            Verb::Check => "check",
+            Verb::Run => "run",
+            Verb::List => "list",
+            Verb::Events => "events",
+            Verb::Help => "help",
+        }
+    }
+
+    fn of(word: &OsStr) -> Option<Verb> {
+        Verb::ALL.into_iter().find(|verb| word == verb.name())
+    }
+
+    /// The options that it has.
+    fn flags(self) -> &'static [Flag] {
+        match self {
+            Verb::Check | Verb::Run => &[Flag::Json, Flag::Hex, Flag::Raw, Flag::Help],
+            Verb::List | Verb::Events => {
+                &[Flag::Json, Flag::Bytes, Flag::Hex, Flag::Raw, Flag::Help]
+            }
+            Verb::Help => &[Flag::Json, Flag::Help],
+        }
+    }
+
+    /// What it takes beside options.
+    fn takes(self) -> &'static str {
+        match self {
+            Verb::Check => "one file or more",
+            Verb::Run => "two files, BOOK and EVENTS",
+            Verb::List | Verb::Events => "one file",
+            Verb::Help => "one verb or none",
+        }
+    }
+}
+
+#[derive(Clone, Copy, Debug, PartialEq, Eq)]
+enum Flag {
+    Json,
+    Bytes,
+    Hex,
+    Raw,
+    Help,
+    Version,
+}
+
+impl Flag {
+    const ALL: [Flag; 6] = [
+        Flag::Json,
+        Flag::Bytes,
+        Flag::Hex,
+        Flag::Raw,
+        Flag::Help,
+        Flag::Version,
+    ];
+
+    fn name(self) -> &'static str {
+        match self {
+            Flag::Json => "--json",
+            Flag::Bytes => "--bytes",
+            Flag::Hex => "--hex",
+            Flag::Raw => "--raw",
+            Flag::Help => "--help",
+            Flag::Version => "--version",
+        }
+    }
+
+    fn of(word: &OsStr) -> Option<Flag> {
+        match word.to_str() {
+            Some("-h") => Some(Flag::Help),
+            Some("-V") => Some(Flag::Version),
+            _ => Flag::ALL.into_iter().find(|flag| word == flag.name()),
+        }
+    }
+}
+
+/// How an answer is asked for.
+#[derive(Clone, Copy, Debug, PartialEq, Eq)]
+pub struct Options {
+    /// Objects, not words.
+    pub json: bool,
+    /// The bytes of each record too.
+    pub bytes: bool,
+    /// What the files hold.
+    pub form: Form,
+}
+
+/// What is asked.
+#[derive(Debug, PartialEq, Eq)]
+pub enum Request {
+    Help {
+        verb: Option<Verb>,
+        json: bool,
+    },
+    Version {
+        json: bool,
+    },
+    /// One file or more.
+    Check {
+        files: Vec<OsString>,
+        options: Options,
+    },
+    Run {
+        book: OsString,
+        events: OsString,
+        options: Options,
+    },
+    List {
+        book: OsString,
+        options: Options,
+    },
+    Events {
+        list: OsString,
+        options: Options,
+    },
+}
+
+/// What the words ask for, or what is wrong with them.
+pub fn parse(words: &[OsString]) -> Result<Request, String> {
+    let Some((first, rest)) = words.split_first() else {
+        return Err(format!("no verb\n{}", help::USAGE.trim_end()));
+    };
+    match (Flag::of(first), Verb::of(first)) {
+        (Some(flag @ (Flag::Help | Flag::Version)), _) => parse_alone(flag, rest),
+        (Some(flag), _) => Err(format!("'{}' stands behind a verb", flag.name())),
+        (None, Some(verb)) => parse_verb(verb, rest),
+        (None, None) => Err(no_verb(first)),
+    }
+}
+
+/// `--help` or `--version` in front.
+fn parse_alone(flag: Flag, rest: &[OsString]) -> Result<Request, String> {
+    let json = rest.iter().any(|word| word == Flag::Json.name());
+    if let Some(other) = rest.iter().find(|word| *word != Flag::Json.name()) {
+        let (name, other) = (flag.name(), shown(other));
+        return Err(format!("'{name}' stands alone, not with '{other}'"));
+    }
+    Ok(match flag {
+        Flag::Version => Request::Version { json },
+        _ => Request::Help { verb: None, json },
+    })
+}
+
+/// What stands behind a verb.
+fn parse_verb(verb: Verb, rest: &[OsString]) -> Result<Request, String> {
+    let (flags, files) = split(verb, rest)?;
+    let has = |flag| flags.contains(&flag);
+    let json = has(Flag::Json);
+    if has(Flag::Help) {
+        let verb = Some(verb);
+        return Ok(Request::Help { verb, json });
+    }
+    let form = match (has(Flag::Hex), has(Flag::Raw)) {
+        (true, true) => return Err("either --hex or --raw".to_string()),
+        (true, false) => Form::Text,
+        (false, true) => Form::Bytes,
+        (false, false) => Form::Unsaid,
+    };
+    let bytes = has(Flag::Bytes);
+    request(verb, files, Options { json, bytes, form })
+}
+
+/// The options and the other words. Behind `--` no word is an option.
+fn split(verb: Verb, rest: &[OsString]) -> Result<(Vec<Flag>, Vec<OsString>), String> {
+    let is_end = |word: &OsString| word == "--";
+    let end = rest.iter().position(is_end).unwrap_or(rest.len());
+    let (mut flags, mut files) = (Vec::new(), Vec::new());
+    for word in &rest[..end] {
+        if !word.as_encoded_bytes().starts_with(b"-") || files::is_input(word) {
+            files.push(word.clone());
+            continue;
+        }
+        match Flag::of(word).filter(|flag| verb.flags().contains(flag)) {
+            Some(flag) => flags.push(flag),
+            None => return Err(no_option(verb, word)),
+        }
+    }
+    files.extend(rest.iter().skip(end + 1).cloned());
+    Ok((flags, files))
+}
+
+/// The request of a verb on files: so many as it takes, and standard input once at most.
+fn request(verb: Verb, files: Vec<OsString>, options: Options) -> Result<Request, String> {
+    if verb != Verb::Help && files.iter().filter(|file| files::is_input(file)).count() > 1 {
+        return Err("'-' is standard input, which can be read once".to_string());
+    }
+    match (verb, files.as_slice()) {
+        (Verb::Check, [_, ..]) => Ok(Request::Check { files, options }),
+        (Verb::Run, [book, events]) => Ok(Request::Run {
+            book: book.clone(),
+            events: events.clone(),
+            options,
+        }),
+        (Verb::List, [book]) => Ok(Request::List {
+            book: book.clone(),
+            options,
+        }),
+        (Verb::Events, [list]) => Ok(Request::Events {
+            list: list.clone(),
+            options,
+        }),
+        (Verb::Help, [] | [_]) => help_on(files.first(), options.json),
+        _ => Err(wrong_count(verb)),
+    }
+}
+
+fn help_on(word: Option<&OsString>, json: bool) -> Result<Request, String> {
+    let verb = match word {
+        Some(word) => Some(Verb::of(word).ok_or_else(|| no_verb(word))?),
+        None => None,
+    };
+    Ok(Request::Help { verb, json })
+}
+
+fn wrong_count(verb: Verb) -> String {
+    let (name, takes, usage) = (verb.name(), verb.takes(), help::usage(verb));
+    format!("{name} takes {takes}\n{usage}")
+}
+
+/// A word as it is shown: in text, and without control characters.
+fn shown(word: &OsStr) -> String {
+    String::from_utf8_lossy(&files::shown(word)).into_owned()
+}
+
+fn no_verb(word: &OsStr) -> String {
+    let mut right: Vec<&str> = Verb::ALL.iter().map(|verb| verb.name()).collect();
+    let verbs = right.join(", ");
+    right.extend([Flag::Help, Flag::Version].map(Flag::name));
+    let word = shown(word);
+    let what = if word.starts_with('-') {
+        "option"
+    } else {
+        "verb"
+    };
+    match nearest(&word, &right) {
+        Some(near) => format!("no {what} '{word}': did you mean '{near}'?"),
+        None => format!("no {what} '{word}': the verbs are {verbs}"),
+    }
+}
+
+fn no_option(verb: Verb, word: &OsStr) -> String {
+    let right: Vec<&str> = verb.flags().iter().map(|flag| flag.name()).collect();
+    let (word, name) = (shown(word), verb.name());
+    match nearest(&word, &right) {
+        Some(near) => format!("no option '{word}': did you mean '{near}'?"),
+        None => format!("no option '{word}': {name} has {}", right.join(", ")),
+    }
+}
+
+#[cfg(test)]
+mod tests;

@@ -1,0 +1,204 @@
+//! Reading a file: bytes, or hexadecimal text.
+
+use crate::descriptors;
+use crate::text::{self, Look, Wrong};
+use std::ffi::OsStr;
+use std::fs::File;
+use std::io::{self, ErrorKind, Read};
+use std::os::fd::AsFd;
+use std::os::unix::ffi::OsStrExt;
+
+/// So many bytes of a file are read. They are refused as a book and as a list of events, whatever
+/// follows them.
+const MOST: usize = 4 << 20;
+
+/// What the caller says that a file holds.
+#[derive(Clone, Copy, Debug, PartialEq, Eq)]
+pub enum Form {
+    /// Text if it is named *.hex, and else what it looks like.
+    Unsaid,
+    Text,
+    Bytes,
+}
+
+/// What a file holds, and what its reader should know.
+#[derive(Debug, PartialEq, Eq)]
+pub struct Given {
+    pub bytes: Vec<u8>,
+    pub note: Option<&'static str>,
+}
+
+/// Why a file gives no answer.
+#[derive(Debug, PartialEq, Eq)]
+pub enum Failure {
+    /// It cannot be read.
+    Unread(String),
+    /// It is no text.
+    NoText(Wrong),
+}
+
+impl Failure {
+    /// Why, behind the name of the file: `FILE: reason` or `FILE:LINE:COLUMN: reason`.
+    pub fn message(&self, name: &OsStr) -> Vec<u8> {
+        let why = match self {
+            Failure::Unread(reason) => format!(": {reason}"),
+            Failure::NoText(Wrong { line, column, what }) => format!(":{line}:{column}: {what}"),
+        };
+        [shown(name), why.into_bytes()].concat()
+    }
+}
+
+/// The name of standard input.
+pub fn is_input(name: &OsStr) -> bool {
+    name == "-"
+}
+
+/// A name as it is shown: its bytes, but for control characters, which could end the line.
+pub fn shown(name: &OsStr) -> Vec<u8> {
+    if name.is_empty() {
+        return b"''".to_vec();
+    }
+    let plain = |byte: &u8| if byte.is_ascii_control() { b'?' } else { *byte };
+    name.as_bytes().iter().map(plain).collect()
+}
+
+/// Reads a file, once, so that it may be a pipe.
+pub fn read(name: &OsStr, form: Form) -> Result<Given, Failure> {
+    let bytes = contents(name).map_err(|error| Failure::Unread(reason(&error)))?;
+    given(bytes, form_of(name, form))
+}
+
+fn contents(name: &OsStr) -> io::Result<Vec<u8>> {
+    let file = open(name)?;
+    if file.metadata()?.is_dir() {
+        return Err(ErrorKind::IsADirectory.into());
+    }
+    let mut bytes = Vec::new();
+    file.take(MOST as u64).read_to_end(&mut bytes)?;
+    Ok(bytes)
+}
+
+/// Standard input is read from a descriptor of its own, since `Stdin` takes one that cannot be
+/// read as empty.
+fn open(name: &OsStr) -> io::Result<File> {
+    if !is_input(name) {
+        return File::open(name);
+    }
+    if !descriptors::input_was_open() {
+        return Err(io::Error::other("standard input is closed"));
+    }
+    Ok(File::from(io::stdin().as_fd().try_clone_to_owned()?))
+}
+
+fn reason(error: &io::Error) -> String {
+    match error.kind() {
+        ErrorKind::NotFound => "no such file".to_string(),
+        ErrorKind::IsADirectory => "a directory".to_string(),
+        _ => format!("cannot read: {error}"),
+    }
+}
+
+fn form_of(name: &OsStr, form: Form) -> Form {
+    let named_text = name.as_bytes().ends_with(b".hex");
+    match form {
+        Form::Unsaid if named_text => Form::Text,
+        _ => form,
+    }
+}
+
+/// What the bytes of a file are in its form.
+fn given(bytes: Vec<u8>, form: Form) -> Result<Given, Failure> {
+    match form {
+        Form::Bytes => Ok(Given { bytes, note: None }),
+        Form::Text => {
+            is_short(&bytes)?;
+            let bytes = text::parse(&bytes).map_err(Failure::NoText)?;
+            Ok(Given { bytes, note: None })
+        }
+        Form::Unsaid => given_by_look(bytes),
+    }
+}
+
+fn given_by_look(bytes: Vec<u8>) -> Result<Given, Failure> {
+    let look = text::look(&bytes);
+    if matches!(look, Look::Text(_) | Look::OddText) {
+        is_short(&bytes)?;
+    }
+    let (bytes, note) = match look {
+        Look::Text(bytes) => (bytes, None),
+        Look::OddText => (bytes, Some("an odd number of digits, so taken as bytes")),
+        Look::OtherText => {
+            let note = "text, but not of hexadecimal digits alone, so taken as bytes";
+            (bytes, Some(note))
+        }
+        Look::Bytes => (bytes, None),
+    };
+    Ok(Given { bytes, note })
+}
+
+/// Text that may be cut is no text.
+fn is_short(text: &[u8]) -> Result<(), Failure> {
+    match text.len() < MOST {
+        true => Ok(()),
+        false => Err(Failure::Unread("text of 4 MiB or more".to_string())),
+    }
+}
+
+#[cfg(test)]
+mod tests {
+    use super::*;
+
+    #[test]
+    fn forms() {
+        let form = |name: &str, form| form_of(OsStr::new(name), form);
+        assert_eq!(form("a.book", Form::Unsaid), Form::Unsaid);
+        assert_eq!(form("a.hex", Form::Unsaid), Form::Text);
+        assert_eq!(form("a.hex", Form::Bytes), Form::Bytes);
+        assert_eq!(form("-", Form::Text), Form::Text);
+    }
+
+    fn bytes(bytes: &[u8], note: Option<&'static str>) -> Result<Given, Failure> {
+        let bytes = bytes.to_vec();
+        Ok(Given { bytes, note })
+    }
+
+    #[test]
+    fn what_is_given() {
+        let text = b"30 0C # none";
+        assert_eq!(given(text.to_vec(), Form::Text), bytes(&[48, 12], None));
+        assert_eq!(given(text.to_vec(), Form::Bytes), bytes(text, None));
+        let Ok(unsaid) = given(text.to_vec(), Form::Unsaid) else {
+            panic!("it is taken as bytes");
+        };
+        assert_eq!(unsaid.bytes, text);
+        assert!(unsaid.note.unwrap().ends_with("so taken as bytes"));
+        assert_eq!(given(vec![1, 3], Form::Unsaid), bytes(&[1, 3], None));
+        assert_eq!(
+            given(b"01 3".to_vec(), Form::Unsaid).unwrap().bytes,
+            b"01 3"
+        );
+        let message = given(b"01\n3".to_vec(), Form::Text).unwrap_err();
+        let message = message.message(OsStr::new("a.hex"));
+        assert_eq!(message, b"a.hex:2:1: an odd number of digits");
+    }
+
+    #[test]
+    fn long_text() {
+        let long = Err(Failure::Unread("text of 4 MiB or more".to_string()));
+        assert_eq!(given(vec![b'0'; MOST], Form::Unsaid), long);
+        assert_eq!(given(vec![b'0'; MOST], Form::Text), long);
+        assert!(given(vec![b'0'; MOST - 2], Form::Text).is_ok());
+        assert_eq!(
+            given(vec![0; MOST], Form::Unsaid).unwrap().bytes.len(),
+            MOST
+        );
+    }
+
+    #[test]
+    fn names() {
+        assert_eq!(shown(OsStr::new("a b")), b"a b");
+        assert_eq!(shown(OsStr::from_bytes(b"\xFF")), b"\xFF");
+        assert_eq!(shown(OsStr::new("a\nb")), b"a?b");
+        assert_eq!(shown(OsStr::new("")), b"''");
+    }
+}

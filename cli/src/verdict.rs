@@ -1,0 +1,100 @@
+//! A verdict in words, and as an object.
+
+use crate::answer::Status;
+use crate::fault::Fault;
+use crate::json::Json;
+use crate::layout::Layout;
+use crate::lines::lines;
+use std::ffi::OsStr;
+use std::fmt;
+use xemdulba::{Counts, Refusal};
+
+/// A refusal, what the rule says, and the record at fault.
+#[derive(Debug, PartialEq, Eq)]
+pub struct Told {
+    pub fault: Fault,
+    record: String,
+}
+
+impl Told {
+    /// The words of a refusal of these bytes.
+    pub fn of(layout: &'static Layout, bytes: &[u8], refusal: Refusal) -> Told {
+        let fault = Fault::of(layout, bytes, refusal);
+        let lines = lines(layout, bytes, Some(fault));
+        let line = lines.iter().find(|line| line.offset == refusal.place);
+        let record = line.map_or(String::new(), |line| line.sentence());
+        Told { fault, record }
+    }
+
+    /// The keys that an object has of it.
+    pub fn pairs(&self) -> Vec<(&'static str, Json)> {
+        let Refusal { number, place } = self.fault.refusal;
+        vec![
+            ("refusal", (number as usize).into()),
+            ("place", place.into()),
+            ("rule", self.fault.rule.into()),
+            ("record", self.record.as_str().into()),
+        ]
+    }
+}
+
+impl fmt::Display for Told {
+    fn fmt(&self, out: &mut fmt::Formatter<'_>) -> fmt::Result {
+        let Fault { refusal, rule } = self.fault;
+        write!(out, "{refusal}: {rule}: {}", self.record)
+    }
+}
+
+/// A verdict: what was counted, or a refusal.
+pub type Verdict<Counted> = Result<Counted, Told>;
+
+/// What was counted, by name.
+pub trait Counted {
+    fn pairs(&self) -> Vec<(&'static str, Json)>;
+}
+
+impl Counted for Counts {
+    fn pairs(&self) -> Vec<(&'static str, Json)> {
+        vec![
+            ("shapes", self.shapes.into()),
+            ("cells", self.cells.into()),
+            ("blocks", self.blocks.into()),
+            ("steps", self.steps.into()),
+        ]
+    }
+}
+
+/// The line of a verdict, without the words of a refusal.
+pub fn line<C: fmt::Display>(verdict: &Verdict<C>) -> String {
+    match verdict {
+        Ok(counts) => counts.to_string(),
+        Err(told) => told.fault.refusal.to_string(),
+    }
+}
+
+/// A verdict as the keys of an object.
+pub fn pairs<C: Counted>(file: &OsStr, verdict: &Verdict<C>) -> Vec<(&'static str, Json)> {
+    let (word, more) = match verdict {
+        Ok(counts) => ("accepted", counts.pairs()),
+        Err(told) => ("refused", told.pairs()),
+    };
+    let mut pairs = vec![("file", name(file)), ("verdict", word.into())];
+    pairs.extend(more);
+    pairs
+}
+
+/// A file's name. Bytes that are no UTF-8 are replaced, since JSON has none.
+pub fn name(file: &OsStr) -> Json {
+    file.to_string_lossy().into_owned().into()
+}
+
+/// The exit status of a verdict.
+pub fn status<C>(verdict: &Verdict<C>) -> Status {
+    match verdict {
+        Ok(_) => Status::Good,
+        Err(_) => Status::Refused,
+    }
+}
+
+#[cfg(test)]
+mod tests;
