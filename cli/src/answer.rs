@@ -1,7 +1,7 @@
 //! What a call of the command gives.
 
 use crate::files::{self, Form};
-use crate::json::Json;
+use crate::json::{Json, Pairs};
 use std::ffi::OsStr;
 use std::fmt::Display;
 
@@ -53,7 +53,7 @@ impl Answer {
     }
 
     /// An object for standard output, on a line of its own.
-    pub fn tell_object(&mut self, pairs: Vec<(&'static str, Json)>) {
+    pub fn tell_object(&mut self, pairs: Pairs) {
         self.tell_line(Json::Object(pairs).to_string());
     }
 

@@ -15,7 +15,7 @@ pub enum Verb {
 }
 
 impl Verb {
-    const ALL: [Verb; 5] = [Verb::Check, Verb::Run, Verb::List, Verb::Events, Verb::Help];
+    pub const ALL: [Verb; 5] = [Verb::Check, Verb::Run, Verb::List, Verb::Events, Verb::Help];
 
     pub fn name(self) -> &'static str {
         match self {
@@ -31,7 +31,11 @@ impl Verb {
         Verb::ALL.into_iter().find(|verb| word == verb.name())
     }
 
-    /// The options that it has.
+    /// The names of its options.
+    pub fn options(self) -> impl Iterator<Item = &'static str> {
+        self.flags().iter().map(|flag| flag.name())
+    }
+
     fn flags(self) -> &'static [Flag] {
         match self {
             Verb::Check | Verb::Run => &[Flag::Json, Flag::Hex, Flag::Raw, Flag::Help],
@@ -258,7 +262,7 @@ fn no_verb(word: &OsStr) -> String {
 }
 
 fn no_option(verb: Verb, word: &OsStr) -> String {
-    let right: Vec<&str> = verb.flags().iter().map(|flag| flag.name()).collect();
+    let right: Vec<&str> = verb.options().collect();
     let (word, name) = (shown(word), verb.name());
     match nearest(&word, &right) {
         Some(near) => format!("no option '{word}': did you mean '{near}'?"),

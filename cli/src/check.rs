@@ -3,7 +3,7 @@
 use crate::answer::{Answer, Status};
 use crate::arguments::Options;
 use crate::files::{self, Failure, Form};
-use crate::json::Json;
+use crate::json::{Json, Pairs};
 use crate::layout::BOOK;
 use crate::parallel;
 use crate::text::Wrong;
@@ -12,22 +12,8 @@ use std::ffi::{OsStr, OsString};
 use xemdulba::Counts;
 
 pub fn answer(files: &[OsString], options: Options) -> Answer {
-    let mut answer = Answer::new();
     let checked = parallel::map(files, |file| check_file(file, options.form));
-    let several = files.len() > 1;
-    for checked in &checked {
-        note(&mut answer, checked, several);
-        match (options.json, several) {
-            (true, _) => answer.tell_object(object(checked)),
-            (false, false) => tell_alone(&mut answer, checked),
-            (false, true) => tell_among(&mut answer, checked),
-        }
-        answer.end_with(checked.status());
-    }
-    if several {
-        tell_counts(&mut answer, &checked, options.json);
-    }
-    answer
+    tell(&checked, options.json)
 }
 
 /// The verdict on a book.
@@ -61,6 +47,27 @@ impl Checked<'_> {
             Err(_) => Status::NoAnswer,
         }
     }
+}
+
+/// The answer on all files.
+fn tell(checked: &[Checked], json: bool) -> Answer {
+    let mut answer = Answer::new();
+    let several = checked.len() > 1;
+    for checked in checked {
+        note(&mut answer, checked, several);
+        if json {
+            answer.tell_object(object(checked));
+        } else if several {
+            tell_among(&mut answer, checked);
+        } else {
+            tell_alone(&mut answer, checked);
+        }
+        answer.end_with(checked.status());
+    }
+    if several {
+        tell_counts(&mut answer, checked, json);
+    }
+    answer
 }
 
 /// What goes to standard error in any case.
@@ -106,15 +113,12 @@ fn tell_among(answer: &mut Answer, checked: &Checked) {
     answer.tell_line(format!(": {words}"));
 }
 
-fn object(checked: &Checked) -> Vec<(&'static str, Json)> {
+fn object(checked: &Checked) -> Pairs {
     let failure = match &checked.verdict {
         Ok(verdict) => return verdict::pairs(checked.file, verdict),
         Err(failure) => failure,
     };
-    let mut pairs = vec![
-        ("file", verdict::name(checked.file)),
-        ("verdict", Json::Null),
-    ];
+    let mut pairs = vec![("file", checked.file.into()), ("verdict", Json::Null)];
     match failure {
         Failure::Unread(reason) => pairs.push(("error", reason.as_str().into())),
         Failure::NoText(Wrong { line, column, what }) => pairs.extend([
@@ -141,3 +145,6 @@ fn tell_counts(answer: &mut Answer, checked: &[Checked], json: bool) {
         ));
     }
 }
+
+#[cfg(test)]
+mod tests;

@@ -74,7 +74,7 @@ fn above(kind: u8) -> &'static str {
     }
 }
 
-/// 6: a content shape is not lower-numbered, no cell shape is named, or what is named does not exist.
+/// 6: a content shape is not lower-numbered, no cell shape is named, or what is named is not there.
 fn unnamed(kind: u8) -> &'static str {
     match kind {
         18 => "the content shape is not lower-numbered",

@@ -64,17 +64,17 @@ pub fn shown(name: &OsStr) -> Vec<u8> {
 
 /// Reads a file, once, so that it may be a pipe.
 pub fn read(name: &OsStr, form: Form) -> Result<Given, Failure> {
-    let bytes = contents(name).map_err(|error| Failure::Unread(reason(&error)))?;
-    given(bytes, form_of(name, form))
+    given(contents(name)?, form_of(name, form))
 }
 
-fn contents(name: &OsStr) -> io::Result<Vec<u8>> {
-    let file = open(name)?;
-    if file.metadata()?.is_dir() {
-        return Err(ErrorKind::IsADirectory.into());
+fn contents(name: &OsStr) -> Result<Vec<u8>, Failure> {
+    let file = open(name).map_err(unread)?;
+    if file.metadata().map_err(unread)?.is_dir() {
+        return Err(Failure::Unread("a directory".to_string()));
     }
     let mut bytes = Vec::new();
-    file.take(MOST as u64).read_to_end(&mut bytes)?;
+    let mut front = file.take(MOST as u64);
+    front.read_to_end(&mut bytes).map_err(unread)?;
     Ok(bytes)
 }
 
@@ -85,17 +85,16 @@ fn open(name: &OsStr) -> io::Result<File> {
         return File::open(name);
     }
     if !descriptors::input_was_open() {
-        return Err(io::Error::other("standard input is closed"));
+        return Err(io::Error::other("it is closed"));
     }
     Ok(File::from(io::stdin().as_fd().try_clone_to_owned()?))
 }
 
-fn reason(error: &io::Error) -> String {
-    match error.kind() {
+fn unread(error: io::Error) -> Failure {
+    Failure::Unread(match error.kind() {
         ErrorKind::NotFound => "no such file".to_string(),
-        ErrorKind::IsADirectory => "a directory".to_string(),
         _ => format!("cannot read: {error}"),
-    }
+    })
 }
 
 fn form_of(name: &OsStr, form: Form) -> Form {

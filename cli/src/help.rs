@@ -42,10 +42,10 @@ the file, and then a line of counts follows.
   --hex      every file is hexadecimal text
   --raw      every file is bytes
 
-  $ xemdulba check a6.book
-  refused 8 at 25
-  xemdulba: a6.book: refused 8 at 25: a step breaks its typing rule: block 0,
-  step 2: relabel r0, 8
+  $ xemdulba check a1.book a6.book
+  a1.book: accepted shapes 2 cells 1 blocks 1 steps 3
+  a6.book: refused 8 at 25: a step breaks its typing rule: block 0, step 2: relabel r0, 8
+  accepted 1 refused 1 no answer 0
 ";
 
 const RUN: &str = "\
@@ -146,4 +146,30 @@ pub fn version(json: bool) -> Answer {
         answer.tell_line(format!("xemdulba {version} ({kit})"));
     }
     answer
+}
+
+#[cfg(test)]
+mod tests {
+    use super::*;
+
+    #[test]
+    fn every_verb_tells_its_usage_and_the_statuses() {
+        for verb in Verb::ALL {
+            let text = text(Some(verb));
+            assert!(text.starts_with(&format!("usage: xemdulba {} ", verb.name())));
+            assert!(text.ends_with(STATUS));
+            assert!(USAGE.contains(&format!("xemdulba {} ", verb.name())));
+        }
+    }
+
+    #[test]
+    fn usage_names_the_options_that_a_verb_has() {
+        for verb in Verb::ALL {
+            for option in ["--json", "--bytes", "--hex", "--raw"] {
+                let has = verb.options().any(|name| name == option);
+                assert_eq!(usage(verb).contains(option), has, "{option}");
+                assert_eq!(text(Some(verb)).contains(option), has, "{option}");
+            }
+        }
+    }
 }

@@ -1,6 +1,10 @@
 //! JSON, as far as it is written here.
 
+use std::ffi::OsStr;
 use std::fmt;
+
+/// The keys of an object, in their order.
+pub type Pairs = Vec<(&'static str, Json)>;
 
 /// A value of JSON. Numbers are whole.
 #[derive(Clone, Debug, PartialEq, Eq)]
@@ -9,12 +13,31 @@ pub enum Json {
     Number(usize),
     Text(String),
     List(Vec<Json>),
-    Object(Vec<(&'static str, Json)>),
+    Object(Pairs),
 }
 
 impl From<usize> for Json {
     fn from(number: usize) -> Json {
         Json::Number(number)
+    }
+}
+
+impl From<u32> for Json {
+    fn from(number: u32) -> Json {
+        Json::Number(number as usize)
+    }
+}
+
+impl From<u8> for Json {
+    fn from(number: u8) -> Json {
+        Json::Number(number.into())
+    }
+}
+
+/// A file's name. Bytes that are no UTF-8 are replaced, since JSON has none.
+impl From<&OsStr> for Json {
+    fn from(name: &OsStr) -> Json {
+        Json::Text(name.to_string_lossy().into_owned())
     }
 }
 
@@ -82,7 +105,7 @@ mod tests {
         let object = Json::Object(vec![
             ("file", "a".into()),
             ("verdict", Json::Null),
-            ("answers", Json::List(vec![0.into(), 2.into()])),
+            ("answers", Json::List(vec![0u8.into(), 2u8.into()])),
             ("none", Json::List(vec![])),
         ]);
         let expected = r#"{"file":"a","verdict":null,"answers":[0,2],"none":[]}"#;

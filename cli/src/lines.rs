@@ -2,7 +2,7 @@
 //! `events` print, and what a refusal's message says of its record.
 
 use crate::fault::Fault;
-use crate::json::Json;
+use crate::json::{Json, Pairs};
 use crate::layout::{Form, Group, Layout};
 use crate::walk::{Entry, Walk};
 use std::fmt::Write;
@@ -121,7 +121,7 @@ impl Stands<'_> {
     }
 
     /// The keys of an object.
-    fn pairs(&self) -> Vec<(&'static str, Json)> {
+    fn pairs(&self) -> Pairs {
         let record = match self {
             Stands::Whole(entry) => entry.form.group.name().into(),
             _ => Json::Null,
@@ -135,7 +135,7 @@ impl Stands<'_> {
                 pairs.extend(word.map(|word| ("kind", word.into())));
                 pairs.extend(entry.fields().map(|(key, _, amount)| (key, amount.into())));
             }
-            Stands::Cut { kind, .. } => pairs.push(("byte", usize::from(*kind).into())),
+            Stands::Cut { kind, .. } => pairs.push(("byte", (*kind).into())),
             Stands::Edge(_) => {}
         }
         pairs
@@ -205,14 +205,14 @@ impl Line<'_> {
     }
 
     /// The line as the keys of an object, with its bytes or without.
-    pub fn pairs(&self, with_bytes: bool) -> Vec<(&'static str, Json)> {
+    pub fn pairs(&self, with_bytes: bool) -> Pairs {
         let mut pairs = vec![("offset", self.offset.into())];
         if with_bytes {
             pairs.push(("bytes", hex(self.bytes).into()));
         }
         pairs.extend(self.stands.pairs());
         if let Some(Fault { refusal, rule }) = self.fault {
-            pairs.push(("refusal", (refusal.number as usize).into()));
+            pairs.push(("refusal", refusal.number.into()));
             pairs.push(("rule", rule.into()));
         }
         pairs

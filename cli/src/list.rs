@@ -3,7 +3,7 @@
 use crate::answer::Answer;
 use crate::arguments::Options;
 use crate::check;
-use crate::json::Json;
+use crate::json::Pairs;
 use crate::layout::{Layout, BOOK, LIST};
 use crate::lines::lines;
 use crate::verdict::{self, Counted, Told, Verdict};
@@ -55,7 +55,7 @@ impl Display for EventCount {
 }
 
 impl Counted for EventCount {
-    fn pairs(&self) -> Vec<(&'static str, Json)> {
+    fn pairs(&self) -> Pairs {
         vec![("events", self.0.into())]
     }
 }

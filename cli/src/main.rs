@@ -1,7 +1,8 @@
 //! The command `xemdulba`: checks job books, runs them on events, and tells both in words.
 //!
-//! It parses no book and no list of events. Verdicts and runs are the proved library's, and from record to record it goes by the
-//! library's calls; what is here are the files, the words and the exit status. docs/COMMANDS.md has all of what it prints.
+//! It parses no book and no list of events. Verdicts and runs are the proved library's, and it goes
+//! from record to record by the library's calls. What is here are the files, the words and the exit
+//! status; docs/COMMANDS.md has all that it prints.
 
 #![deny(unsafe_code)]
 

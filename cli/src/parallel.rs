@@ -8,11 +8,14 @@ use std::thread::{self, Builder};
 pub fn map<'t, T: Sync, R: Send>(items: &'t [T], work: impl Fn(&'t T) -> R + Sync) -> Vec<R> {
     let next = AtomicUsize::new(0);
     let take_turns = || {
-        let turn = || next.fetch_add(1, Ordering::Relaxed);
-        let item = || Some(turn()).and_then(|i| Some((i, items.get(i)?)));
-        std::iter::from_fn(item)
-            .map(|(i, item)| (i, work(item)))
-            .collect::<Vec<_>>()
+        let mut done = Vec::new();
+        loop {
+            let turn = next.fetch_add(1, Ordering::Relaxed);
+            match items.get(turn) {
+                Some(item) => done.push((turn, work(item))),
+                None => return done,
+            }
+        }
     };
     let mut done = thread::scope(|scope| {
         let helpers: Vec<_> = (1..threads(items.len()))
@@ -27,7 +30,7 @@ pub fn map<'t, T: Sync, R: Send>(items: &'t [T], work: impl Fn(&'t T) -> R + Syn
         }
         done
     });
-    done.sort_by_key(|(i, _)| *i);
+    done.sort_by_key(|(turn, _)| *turn);
     done.into_iter().map(|(_, result)| result).collect()
 }
 

@@ -3,9 +3,9 @@
 use crate::answer::{Answer, Status};
 use crate::arguments::Options;
 use crate::check;
-use crate::json::Json;
+use crate::json::{Json, Pairs};
 use crate::layout::{BOOK, LIST};
-use crate::verdict::{self, Told};
+use crate::verdict::Told;
 use std::ffi::OsStr;
 use xemdulba::{Cell, Job, Refusal, Run, Value};
 
@@ -17,31 +17,44 @@ pub fn answer(book_file: &OsStr, list_file: &OsStr, options: Options) -> Answer 
     let Some(list) = answer.read(list_file, options.form) else {
         return answer;
     };
-    match xemdulba::run(&book, &list) {
+    tell(
+        &mut answer,
+        (book_file, &book),
+        (list_file, &list),
+        options.json,
+    );
+    answer
+}
+
+/// A file, and what it holds.
+type Source<'f> = (&'f OsStr, &'f [u8]);
+
+fn tell(answer: &mut Answer, book: Source, list: Source, json: bool) {
+    match xemdulba::run(book.1, list.1) {
         Ok(run) => {
-            let unchecked = check::check(&book).err();
-            match options.json {
-                true => tell_objects(&mut answer, &run, unchecked),
-                false => tell_run(&mut answer, &run, book_file, unchecked),
+            let unchecked = check::check(book.1).err();
+            if json {
+                tell_objects(answer, &run, unchecked);
+            } else {
+                tell_run(answer, &run, book.0, unchecked);
             }
         }
         Err(refusal @ Refusal { number: 9, .. }) => {
-            let told = Told::of(&LIST, &list, refusal);
-            tell_refusal(&mut answer, list_file, &told, options.json);
+            let told = Told::of(&LIST, list.1, refusal);
+            tell_refusal(answer, list.0, &told, json);
         }
         Err(refusal) => {
-            let told = Told::of(&BOOK, &book, refusal);
-            tell_refusal(&mut answer, book_file, &told, options.json);
+            let told = Told::of(&BOOK, book.1, refusal);
+            tell_refusal(answer, book.0, &told, json);
         }
     }
-    answer
 }
 
 /// A refusal, by the file that is at fault.
 fn tell_refusal(answer: &mut Answer, file: &OsStr, told: &Told, json: bool) {
     answer.end_with(Status::Refused);
     if json {
-        let mut pairs = vec![("outcome", "refused".into()), ("file", verdict::name(file))];
+        let mut pairs = vec![("outcome", "refused".into()), ("file", file.into())];
         pairs.extend(told.pairs());
         answer.tell_object(pairs);
     } else {
@@ -50,14 +63,14 @@ fn tell_refusal(answer: &mut Answer, file: &OsStr, told: &Told, json: bool) {
     }
 }
 
-/// Names and numbers, which stand in a line as in an object.
-type Numbers = Vec<(&'static str, usize)>;
+/// Names and their named, which stand in a line of words as in an object.
+type Named = Vec<(&'static str, usize)>;
 
-fn counts(run: &Run) -> Numbers {
+fn counts(run: &Run) -> Named {
     vec![("cells", run.cells.len()), ("jobs", run.jobs.len())]
 }
 
-fn cell_numbers(index: usize, cell: &Cell) -> Numbers {
+fn of_cell(index: usize, cell: &Cell) -> Named {
     vec![
         ("cell", index),
         ("shape", cell.shape.into()),
@@ -66,7 +79,7 @@ fn cell_numbers(index: usize, cell: &Cell) -> Numbers {
     ]
 }
 
-fn job_numbers(index: usize, job: &Job) -> Numbers {
+fn of_job(index: usize, job: &Job) -> Named {
     vec![
         ("job", index),
         ("block", job.block.into()),
@@ -81,8 +94,8 @@ fn answers(run: &Run) -> impl Iterator<Item = u8> + '_ {
 }
 
 /// `cells 1 jobs 1`.
-fn words(numbers: Numbers) -> String {
-    let words: Vec<String> = numbers
+fn words(named: Named) -> String {
+    let words: Vec<String> = named
         .iter()
         .map(|(name, n)| format!("{name} {n}"))
         .collect();
@@ -108,26 +121,26 @@ fn tell_run(answer: &mut Answer, run: &Run, book_file: &OsStr, unchecked: Option
     answer.tell_line(format!("answers{answers}"));
     for (i, cell) in run.cells.iter().enumerate() {
         let value = value_words(&cell.value);
-        answer.tell_line(format!("{} {value}", words(cell_numbers(i, cell))));
+        answer.tell_line(format!("{} {value}", words(of_cell(i, cell))));
     }
     for (i, job) in run.jobs.iter().enumerate() {
-        answer.tell_line(words(job_numbers(i, job)));
+        answer.tell_line(words(of_job(i, job)));
         for (r, value) in job.registers.iter().enumerate() {
             answer.tell_line(format!("  register {r} {}", value_words(value)));
         }
     }
 }
 
-fn pairs(numbers: Numbers) -> Vec<(&'static str, Json)> {
-    let pairs = numbers.into_iter();
+fn pairs(named: Named) -> Pairs {
+    let pairs = named.into_iter();
     pairs.map(|(name, number)| (name, number.into())).collect()
 }
 
 fn value_object(value: &Value) -> Json {
     Json::Object(vec![
         ("kind", value.kind.to_string().into()),
-        ("number", (value.number as usize).into()),
-        ("source", usize::from(value.source.0).into()),
+        ("number", value.number.into()),
+        ("source", value.source.0.into()),
     ])
 }
 
@@ -137,17 +150,20 @@ fn tell_objects(answer: &mut Answer, run: &Run, unchecked: Option<Told>) {
     outcome.extend(pairs(counts(run)));
     outcome.extend(unchecked.map(|told| ("check", Json::Object(told.pairs()))));
     answer.tell_object(outcome);
-    let answers = answers(run).map(|byte| usize::from(byte).into()).collect();
+    let answers = answers(run).map(Json::from).collect();
     answer.tell_object(vec![("answers", Json::List(answers))]);
     for (i, cell) in run.cells.iter().enumerate() {
-        let mut object = pairs(cell_numbers(i, cell));
+        let mut object = pairs(of_cell(i, cell));
         object.push(("value", value_object(&cell.value)));
         answer.tell_object(object);
     }
     for (i, job) in run.jobs.iter().enumerate() {
-        let mut object = pairs(job_numbers(i, job));
+        let mut object = pairs(of_job(i, job));
         let registers = job.registers.iter().map(value_object).collect();
         object.push(("registers", Json::List(registers)));
         answer.tell_object(object);
     }
 }
+
+#[cfg(test)]
+mod tests;

@@ -2,7 +2,7 @@
 
 use crate::answer::Status;
 use crate::fault::Fault;
-use crate::json::Json;
+use crate::json::Pairs;
 use crate::layout::Layout;
 use crate::lines::lines;
 use std::ffi::OsStr;
@@ -27,10 +27,10 @@ impl Told {
     }
 
     /// The keys that an object has of it.
-    pub fn pairs(&self) -> Vec<(&'static str, Json)> {
+    pub fn pairs(&self) -> Pairs {
         let Refusal { number, place } = self.fault.refusal;
         vec![
-            ("refusal", (number as usize).into()),
+            ("refusal", number.into()),
             ("place", place.into()),
             ("rule", self.fault.rule.into()),
             ("record", self.record.as_str().into()),
@@ -50,11 +50,11 @@ pub type Verdict<Counted> = Result<Counted, Told>;
 
 /// What was counted, by name.
 pub trait Counted {
-    fn pairs(&self) -> Vec<(&'static str, Json)>;
+    fn pairs(&self) -> Pairs;
 }
 
 impl Counted for Counts {
-    fn pairs(&self) -> Vec<(&'static str, Json)> {
+    fn pairs(&self) -> Pairs {
         vec![
             ("shapes", self.shapes.into()),
             ("cells", self.cells.into()),
@@ -73,19 +73,14 @@ pub fn line<C: fmt::Display>(verdict: &Verdict<C>) -> String {
 }
 
 /// A verdict as the keys of an object.
-pub fn pairs<C: Counted>(file: &OsStr, verdict: &Verdict<C>) -> Vec<(&'static str, Json)> {
+pub fn pairs<C: Counted>(file: &OsStr, verdict: &Verdict<C>) -> Pairs {
     let (word, more) = match verdict {
         Ok(counts) => ("accepted", counts.pairs()),
         Err(told) => ("refused", told.pairs()),
     };
-    let mut pairs = vec![("file", name(file)), ("verdict", word.into())];
+    let mut pairs = vec![("file", file.into()), ("verdict", word.into())];
     pairs.extend(more);
     pairs
-}
-
-/// A file's name. Bytes that are no UTF-8 are replaced, since JSON has none.
-pub fn name(file: &OsStr) -> Json {
-    file.to_string_lossy().into_owned().into()
 }
 
 /// The exit status of a verdict.

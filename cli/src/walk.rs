@@ -73,10 +73,10 @@ impl fmt::Display for Amount {
 impl From<Amount> for Json {
     fn from(amount: Amount) -> Json {
         match amount {
-            Amount::Number(number) => Json::from(number as usize),
+            Amount::Number(number) => Json::from(number),
             Amount::Value { kind, number } => {
                 let name = value_kind(kind).map_or(kind.to_string(), str::to_string);
-                let number = Json::from(number as usize);
+                let number = Json::from(number);
                 Json::Object(vec![("kind", name.into()), ("number", number)])
             }
         }

@@ -1,0 +1,91 @@
+//! Runs in words and as objects, written by hand from docs/FORMAT.md.
+
+use super::*;
+use crate::text;
+
+/// What goes to standard output, to standard error, and the status.
+fn told(book: &str, list: &str, json: bool) -> (String, String, Status) {
+    let bytes = |hex: &str| text::parse(hex.as_bytes()).unwrap();
+    let mut answer = Answer::new();
+    let (book, list) = (bytes(book), bytes(list));
+    let book = (OsStr::new("book"), book.as_slice());
+    let list = (OsStr::new("list"), list.as_slice());
+    tell(&mut answer, book, list, json);
+    let text = |bytes| String::from_utf8(bytes).unwrap();
+    (text(answer.out), text(answer.notes), answer.status)
+}
+
+const A: &str =
+    "01 03 10 12 00 09 20 01 09 00 05 00 00 00 30 0C 41 00 00 40 01 07 00 00 00 46 00 01";
+const STEPS: &str = "50 00 50 00 50 00 50 00";
+
+#[test]
+fn words() {
+    let (out, notes, status) = told(A, STEPS, false);
+    let lines: Vec<&str> = out.lines().collect();
+    assert_eq!(lines.len(), 12);
+    let expected = [
+        "ran cells 1 jobs 1",
+        "answers 0 0 0 2",
+        "cell 0 shape 1 trust 9 label 9 plain 7 source 12",
+        "job 0 block 0 position 3 label 12 source 12",
+        "  register 0 cell 0 source 12",
+        "  register 1 plain 7 source 12",
+        "  register 2 plain 0 source 12",
+    ];
+    assert_eq!(lines[..7], expected);
+    assert_eq!((notes.as_str(), status), ("", Status::Good));
+    let (out, _, _) = told(A, "", false);
+    assert_eq!(out.lines().nth(1), Some("answers"));
+}
+
+#[test]
+fn objects() {
+    let (out, notes, status) = told(A, STEPS, true);
+    let lines: Vec<&str> = out.lines().collect();
+    assert_eq!(lines.len(), 4);
+    assert_eq!(lines[0], r#"{"outcome":"ran","cells":1,"jobs":1}"#);
+    assert_eq!(lines[1], r#"{"answers":[0,0,0,2]}"#);
+    let cell = r#"{"cell":0,"shape":1,"trust":9,"label":9,"#;
+    let value = r#""value":{"kind":"plain","number":7,"source":12}}"#;
+    assert_eq!(lines[2], [cell, value].concat());
+    let job =
+        r#"{"job":0,"block":0,"position":3,"label":12,"source":12,"registers":[{"kind":"cell","#;
+    assert!(lines[3].starts_with(job));
+    assert_eq!(lines[3].matches("number").count(), 8);
+    assert_eq!((notes.as_str(), status), ("", Status::Good));
+}
+
+#[test]
+fn a_book_that_check_refuses() {
+    let a6 = A.replace("46 00 01", "47 00 08");
+    let (out, notes, status) = told(&a6, STEPS, false);
+    assert!(out.starts_with("ran "));
+    let note =
+        "xemdulba: book: check refuses this book: refused 8 at 25: a step breaks its typing \
+                rule: block 0, step 2: relabel r0, 8\n";
+    assert_eq!((notes.as_str(), status), (note, Status::Good));
+    let (out, notes, _) = told(&a6, STEPS, true);
+    let check = r#"{"outcome":"ran","cells":1,"jobs":1,"check":{"refusal":8,"place":25,"#;
+    assert!(out.starts_with(check));
+    assert_eq!(notes, "");
+}
+
+#[test]
+fn refusals() {
+    let (out, notes, status) = told(A, "50 00 09", false);
+    assert_eq!(
+        (out.as_str(), status),
+        ("refused 9 at 2\n", Status::Refused)
+    );
+    let note = "xemdulba: list: refused 9 at 2: no event has this kind: event 1: kind 9\n";
+    assert_eq!(notes, note);
+    let (out, notes, _) = told("01 0F 30 00", STEPS, false);
+    assert_eq!(out, "refused 5 at 0\n");
+    let note = "xemdulba: book: refused 5 at 0: C is above 14: C: 15\n";
+    assert_eq!(notes, note);
+    let (out, notes, status) = told("01 0F 30 00", STEPS, true);
+    let refused = r#"{"outcome":"refused","file":"book","refusal":5,"place":0,"#;
+    assert!(out.starts_with(refused));
+    assert_eq!((notes.as_str(), status), ("", Status::Refused));
+}
