@@ -38,62 +38,75 @@ pub struct Line<'b> {
 }
 
 /// The lines of a book or a list as far as its records can be read, and the line of the fault.
-pub fn lines<'b>(layout: &'static Layout, bytes: &'b [u8], fault: Option<Fault>) -> Vec<Line<'b>> {
-    if bytes.len() > layout.longest {
-        let start = fault.map(|fault| edge(layout.start, fault));
-        return start.into_iter().collect();
-    }
-    let mut walk = Walk::new(layout, bytes);
-    let mut lines: Vec<Line> = walk.by_ref().map(|entry| whole(entry, fault)).collect();
-    if let Some(fault) = fault {
-        if lines.iter().all(|line| line.fault.is_none()) {
-            let group = layout.group;
-            let head = group.map(|group| (group, walk.numbers.next(group)));
-            lines.push(behind(layout, bytes, head, fault));
-        }
-    }
-    lines
-}
-
-fn edge(words: &'static str, fault: Fault) -> Line<'static> {
-    Line {
-        offset: fault.refusal.place,
-        bytes: &[],
-        stands: Stands::Edge(words),
-        fault: Some(fault),
+pub fn lines<'b>(
+    layout: &'static Layout,
+    bytes: &'b [u8],
+    fault: Option<Fault>,
+) -> impl Iterator<Item = Line<'b>> {
+    let is_long = bytes.len() > layout.longest;
+    Lines {
+        layout,
+        bytes,
+        walk: Walk::new(layout, if is_long { &[] } else { bytes }),
+        fault,
     }
 }
 
-fn whole(entry: Entry<'_>, fault: Option<Fault>) -> Line<'_> {
-    Line {
-        offset: entry.offset,
-        bytes: entry.bytes,
-        fault: fault.filter(|fault| fault.refusal.place == entry.offset),
-        stands: Stands::Whole(entry),
+struct Lines<'b> {
+    layout: &'static Layout,
+    bytes: &'b [u8],
+    walk: Walk<'b>,
+    /// The fault, until its line has come.
+    fault: Option<Fault>,
+}
+
+impl<'b> Iterator for Lines<'b> {
+    type Item = Line<'b>;
+
+    fn next(&mut self) -> Option<Line<'b>> {
+        let Some(entry) = self.walk.next() else {
+            let fault = self.fault.take()?;
+            return Some(self.behind(fault));
+        };
+        let is_here = |fault: &mut Fault| fault.refusal.place == entry.offset;
+        Some(Line {
+            offset: entry.offset,
+            bytes: entry.bytes,
+            fault: self.fault.take_if(is_here),
+            stands: Stands::Whole(entry),
+        })
     }
 }
 
 /// So many bytes of a cut record are shown at most, as many as the longest record has.
 const SHOWN: usize = 8;
 
-/// The line behind all whole records, where the fault is at none of theirs.
-fn behind<'b>(
-    layout: &'static Layout,
-    bytes: &'b [u8],
-    head: Option<Head>,
-    fault: Fault,
-) -> Line<'b> {
-    let offset = fault.refusal.place;
-    let rest = bytes.get(offset..).unwrap_or(&[]);
-    let Some(&kind) = rest.first() else {
-        return edge(layout.end, fault);
-    };
-    let form = layout.form(kind);
-    Line {
-        offset,
-        bytes: &rest[..rest.len().min(SHOWN)],
-        stands: Stands::Cut { kind, form, head },
-        fault: Some(fault),
+impl<'b> Lines<'b> {
+    /// The line behind all whole records, where the fault is at none of them.
+    fn behind(&mut self, fault: Fault) -> Line<'b> {
+        let offset = fault.refusal.place;
+        let rest = self.bytes.get(offset..).unwrap_or(&[]);
+        let is_long = self.bytes.len() > self.layout.longest;
+        let (bytes, stands) = match rest.first() {
+            _ if is_long => (&[][..], Stands::Edge(self.layout.start)),
+            None => (rest, Stands::Edge(self.layout.end)),
+            Some(&kind) => (&rest[..rest.len().min(SHOWN)], self.cut(kind)),
+        };
+        Line {
+            offset,
+            bytes,
+            stands,
+            fault: Some(fault),
+        }
+    }
+
+    fn cut(&mut self, kind: u8) -> Stands<'b> {
+        let group = self.layout.group;
+        Stands::Cut {
+            kind,
+            form: self.layout.form(kind),
+            head: group.map(|group| (group, self.walk.numbers.next(group))),
+        }
     }
 }
 

@@ -20,8 +20,8 @@ impl Told {
     /// The words of a refusal of these bytes.
     pub fn of(layout: &'static Layout, bytes: &[u8], refusal: Refusal) -> Told {
         let fault = Fault::of(layout, bytes, refusal);
-        let lines = lines(layout, bytes, Some(fault));
-        let line = lines.iter().find(|line| line.offset == refusal.place);
+        let mut lines = lines(layout, bytes, Some(fault));
+        let line = lines.find(|line| line.offset == refusal.place);
         let record = line.map_or(String::new(), |line| line.sentence());
         Told { fault, record }
     }

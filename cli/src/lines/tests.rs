@@ -14,7 +14,7 @@ fn listed(layout: &'static Layout, hex: &str, (number, place): (u32, usize)) -> 
     let refusal = Refusal { number, place };
     let fault = (number != 0).then(|| Fault::of(layout, &bytes, refusal));
     let lines = lines(layout, &bytes, fault);
-    lines.iter().map(|line| line.text(false)).collect()
+    lines.map(|line| line.text(false)).collect()
 }
 
 #[test]
@@ -35,7 +35,7 @@ fn book_a() {
 #[test]
 fn bytes() {
     let book = text::parse(A.as_bytes()).unwrap();
-    let lines = lines(&BOOK, &book, None);
+    let lines: Vec<Line> = lines(&BOOK, &book, None).collect();
     let expected = "    6  20 01 09 00 05 00 00 00  cell 0     shape 1, label 9, plain 5";
     assert_eq!(lines[3].text(true), expected);
     let expected = "    2  10                       shape 0    plain";
@@ -135,8 +135,8 @@ fn edges() {
 fn last_object(layout: &'static Layout, hex: &str, refusal: Option<(u32, usize)>) -> String {
     let bytes = text::parse(hex.as_bytes()).unwrap();
     let fault = refusal.map(|(number, place)| Fault::of(layout, &bytes, Refusal { number, place }));
-    let lines = lines(layout, &bytes, fault);
-    Json::Object(lines[lines.len() - 1].pairs(true)).to_string()
+    let last = lines(layout, &bytes, fault).last().unwrap();
+    Json::Object(last.pairs(true)).to_string()
 }
 
 #[test]
