@@ -3,99 +3,8 @@
 use crate::files::{self, Form};
 use crate::help;
 use crate::nearest::nearest;
+use crate::verbs::{Flag, Verb};
 use std::ffi::{OsStr, OsString};
-
-#[derive(Clone, Copy, Debug, PartialEq, Eq)]
-pub enum Verb {
-    Check,
-    Run,
-    List,
-    Events,
-    Help,
-}
-
-impl Verb {
-    pub const ALL: [Verb; 5] = [Verb::Check, Verb::Run, Verb::List, Verb::Events, Verb::Help];
-
-    pub fn name(self) -> &'static str {
-        match self {
-            Verb::Check => "check",
-            Verb::Run => "run",
-            Verb::List => "list",
-            Verb::Events => "events",
-            Verb::Help => "help",
-        }
-    }
-
-    fn of(word: &OsStr) -> Option<Verb> {
-        Verb::ALL.into_iter().find(|verb| word == verb.name())
-    }
-
-    /// The names of its options.
-    pub fn options(self) -> impl Iterator<Item = &'static str> {
-        self.flags().iter().map(|flag| flag.name())
-    }
-
-    fn flags(self) -> &'static [Flag] {
-        match self {
-            Verb::Check | Verb::Run => &[Flag::Json, Flag::Hex, Flag::Raw, Flag::Help],
-            Verb::List | Verb::Events => {
-                &[Flag::Json, Flag::Bytes, Flag::Hex, Flag::Raw, Flag::Help]
-            }
-            Verb::Help => &[Flag::Json, Flag::Help],
-        }
-    }
-
-    /// What it takes beside options.
-    fn takes(self) -> &'static str {
-        match self {
-            Verb::Check => "one file or more",
-            Verb::Run => "two files, BOOK and EVENTS",
-            Verb::List | Verb::Events => "one file",
-            Verb::Help => "one verb or none",
-        }
-    }
-}
-
-#[derive(Clone, Copy, Debug, PartialEq, Eq)]
-enum Flag {
-    Json,
-    Bytes,
-    Hex,
-    Raw,
-    Help,
-    Version,
-}
-
-impl Flag {
-    const ALL: [Flag; 6] = [
-        Flag::Json,
-        Flag::Bytes,
-        Flag::Hex,
-        Flag::Raw,
-        Flag::Help,
-        Flag::Version,
-    ];
-
-    fn name(self) -> &'static str {
-        match self {
-            Flag::Json => "--json",
-            Flag::Bytes => "--bytes",
-            Flag::Hex => "--hex",
-            Flag::Raw => "--raw",
-            Flag::Help => "--help",
-            Flag::Version => "--version",
-        }
-    }
-
-    fn of(word: &OsStr) -> Option<Flag> {
-        match word.to_str() {
-            Some("-h") => Some(Flag::Help),
-            Some("-V") => Some(Flag::Version),
-            _ => Flag::ALL.into_iter().find(|flag| word == flag.name()),
-        }
-    }
-}
 
 /// How an answer is asked for.
 #[derive(Clone, Copy, Debug, PartialEq, Eq)]
@@ -174,7 +83,7 @@ fn parse_verb(verb: Verb, rest: &[OsString]) -> Result<Request, String> {
         return Ok(Request::Help { verb, json });
     }
     let form = match (has(Flag::Hex), has(Flag::Raw)) {
-        (true, true) => return Err("either --hex or --raw".to_string()),
+        (true, true) => return Err("either --hex or --raw, not both".to_string()),
         (true, false) => Form::Text,
         (false, true) => Form::Bytes,
         (false, false) => Form::Unsaid,
@@ -240,9 +149,9 @@ fn wrong_count(verb: Verb) -> String {
     format!("{name} takes {takes}\n{usage}")
 }
 
-/// A word as it is shown: in text, and without control characters.
+/// A word as it is shown between quotes.
 fn shown(word: &OsStr) -> String {
-    String::from_utf8_lossy(&files::shown(word)).into_owned()
+    String::from_utf8_lossy(&files::printable(word)).into_owned()
 }
 
 fn no_verb(word: &OsStr) -> String {
@@ -250,11 +159,8 @@ fn no_verb(word: &OsStr) -> String {
     let verbs = right.join(", ");
     right.extend([Flag::Help, Flag::Version].map(Flag::name));
     let word = shown(word);
-    let what = if word.starts_with('-') {
-        "option"
-    } else {
-        "verb"
-    };
+    let is_option = word.starts_with('-');
+    let what = if is_option { "option" } else { "verb" };
     match nearest(&word, &right) {
         Some(near) => format!("no {what} '{word}': did you mean '{near}'?"),
         None => format!("no {what} '{word}': the verbs are {verbs}"),

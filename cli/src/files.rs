@@ -53,13 +53,18 @@ pub fn is_input(name: &OsStr) -> bool {
     name == "-"
 }
 
-/// A name as it is shown: its bytes, but for control characters, which could end the line.
+/// A name as it is shown.
 pub fn shown(name: &OsStr) -> Vec<u8> {
     if name.is_empty() {
         return b"''".to_vec();
     }
+    printable(name)
+}
+
+/// The bytes of a word, but for control characters, which could end the line.
+pub fn printable(word: &OsStr) -> Vec<u8> {
     let plain = |byte: &u8| if byte.is_ascii_control() { b'?' } else { *byte };
-    name.as_bytes().iter().map(plain).collect()
+    word.as_bytes().iter().map(plain).collect()
 }
 
 /// Reads a file, once, so that it may be a pipe.

@@ -1,8 +1,8 @@
 //! The help texts, and the version.
 
 use crate::answer::Answer;
-use crate::arguments::Verb;
 use crate::json::Json;
+use crate::verbs::Verb;
 
 /// How the command is called.
 pub const USAGE: &str = "\

@@ -177,3 +177,40 @@ pub static LIST: Layout = Layout {
         form(85, Event, "start", &[BY, BLOCK]),
     ],
 };
+
+#[cfg(test)]
+mod tests {
+    use super::*;
+
+    /// How many bytes a record of a form has.
+    fn length(form: &Form) -> usize {
+        let bytes = form.parts.iter().map(|(_, _, slot)| match slot {
+            First | Second | Third => 1,
+            Number => 4,
+            Value => 5,
+        });
+        1 + bytes.sum::<usize>()
+    }
+
+    #[test]
+    fn every_kind_that_the_library_tells_has_words() {
+        for layout in [&BOOK, &LIST] {
+            for kind in 0..=255 {
+                let bytes = [kind, 1, 2, 3, 4, 5, 6, 7];
+                let told = (layout.told_at)(&bytes, 0).map(|fields| fields.next);
+                assert_eq!(told, layout.form(kind).map(length), "kind {kind}");
+            }
+        }
+    }
+
+    #[test]
+    fn names() {
+        let name = |kind| BOOK.form(kind).map(Form::name).unwrap_or_default();
+        assert_eq!(name(1), "C");
+        assert_eq!(
+            [16, 17, 18].map(name),
+            ["plain shape", "code shape", "cell shape"]
+        );
+        assert_eq!([32, 48, 70].map(name), ["cell", "block", "write"]);
+    }
+}

@@ -23,6 +23,7 @@ mod output;
 mod parallel;
 mod run;
 mod text;
+mod verbs;
 mod verdict;
 mod walk;
 

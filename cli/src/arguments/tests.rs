@@ -94,6 +94,7 @@ fn wrong_words() {
         format!("no verb 'frobnicate': {verbs}")
     );
     assert_eq!(wrong(&["help", "xyz"]), format!("no verb 'xyz': {verbs}"));
+    assert_eq!(wrong(&[""]), format!("no verb '': {verbs}"));
     assert_eq!(wrong(&["-x"]), format!("no option '-x': {verbs}"));
     assert_eq!(wrong(&["--json", "check"]), "'--json' stands behind a verb");
     let near = "no option '--jsn': did you mean '--json'?";
@@ -127,6 +128,6 @@ fn wrong_numbers_of_files() {
     assert_eq!(wrong(&["run", "-", "--", "-"]), twice);
     assert_eq!(
         wrong(&["check", "--hex", "--raw", "a"]),
-        "either --hex or --raw"
+        "either --hex or --raw, not both"
     );
 }
