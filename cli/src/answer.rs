@@ -1,6 +1,6 @@
 //! What a call of the command gives.
 
-use crate::files::{self, Form};
+use crate::files::{self, Content};
 use crate::json::{Json, Pairs};
 use std::ffi::OsStr;
 use std::fmt::Display;
@@ -76,8 +76,8 @@ impl Answer {
     }
 
     /// The bytes of a file, if it can be read; says what there is to say of it.
-    pub fn read(&mut self, file: &OsStr, form: Form) -> Option<Vec<u8>> {
-        match files::read(file, form) {
+    pub fn read(&mut self, file: &OsStr, content: Content) -> Option<Vec<u8>> {
+        match files::read(file, content) {
             Ok(given) => {
                 if let Some(note) = given.note {
                     self.note_on(file, note);

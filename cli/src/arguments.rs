@@ -1,6 +1,6 @@
 //! The words behind the command's name.
 
-use crate::files::{self, Form};
+use crate::files::{self, Content};
 use crate::help;
 use crate::nearest::nearest;
 use crate::verbs::{Flag, Verb};
@@ -14,7 +14,7 @@ pub struct Options {
     /// The bytes of each record too.
     pub bytes: bool,
     /// What the files hold.
-    pub form: Form,
+    pub content: Content,
 }
 
 /// What is asked.
@@ -82,14 +82,22 @@ fn parse_verb(verb: Verb, rest: &[OsString]) -> Result<Request, String> {
         let verb = Some(verb);
         return Ok(Request::Help { verb, json });
     }
-    let form = match (has(Flag::Hex), has(Flag::Raw)) {
+    let content = match (has(Flag::Hex), has(Flag::Raw)) {
         (true, true) => return Err("either --hex or --raw, not both".to_string()),
-        (true, false) => Form::Text,
-        (false, true) => Form::Bytes,
-        (false, false) => Form::Unsaid,
+        (true, false) => Content::Text,
+        (false, true) => Content::Bytes,
+        (false, false) => Content::Unsaid,
     };
     let bytes = has(Flag::Bytes);
-    request(verb, files, Options { json, bytes, form })
+    request(
+        verb,
+        files,
+        Options {
+            json,
+            bytes,
+            content,
+        },
+    )
 }
 
 /// The options and the other words. Behind `--` no word is an option.

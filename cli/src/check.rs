@@ -2,7 +2,7 @@
 
 use crate::answer::{Answer, Status};
 use crate::arguments::Options;
-use crate::files::{self, Failure, Form};
+use crate::files::{self, Content, Failure};
 use crate::json::{Json, Pairs};
 use crate::layout::BOOK;
 use crate::parallel;
@@ -12,7 +12,7 @@ use std::ffi::{OsStr, OsString};
 use xemdulba::Counts;
 
 pub fn answer(files: &[OsString], options: Options) -> Answer {
-    let checked = parallel::map(files, |file| check_file(file, options.form));
+    let checked = parallel::map(files, |file| check_file(file, options.content));
     tell(&checked, options.json)
 }
 
@@ -28,8 +28,8 @@ struct Checked<'f> {
     verdict: Result<Verdict<Counts>, Failure>,
 }
 
-fn check_file(file: &OsStr, form: Form) -> Checked<'_> {
-    let (note, verdict) = match files::read(file, form) {
+fn check_file(file: &OsStr, content: Content) -> Checked<'_> {
+    let (note, verdict) = match files::read(file, content) {
         Ok(given) => (given.note, Ok(check(&given.bytes))),
         Err(failure) => (None, Err(failure)),
     };

@@ -14,7 +14,7 @@ const MOST: usize = 4 << 20;
 
 /// What the caller says that a file holds.
 #[derive(Clone, Copy, Debug, PartialEq, Eq)]
-pub enum Form {
+pub enum Content {
     /// Text if it is named *.hex, and else what it looks like.
     Unsaid,
     Text,
@@ -68,18 +68,19 @@ pub fn printable(word: &OsStr) -> Vec<u8> {
 }
 
 /// Reads a file, once, so that it may be a pipe.
-pub fn read(name: &OsStr, form: Form) -> Result<Given, Failure> {
-    given(contents(name)?, form_of(name, form))
+pub fn read(name: &OsStr, content: Content) -> Result<Given, Failure> {
+    given(front(name)?, content_of(name, content))
 }
 
-fn contents(name: &OsStr) -> Result<Vec<u8>, Failure> {
+/// The bytes of a file, up to the limit.
+fn front(name: &OsStr) -> Result<Vec<u8>, Failure> {
     let file = open(name).map_err(unread)?;
     if file.metadata().map_err(unread)?.is_dir() {
         return Err(Failure::Unread("a directory".to_string()));
     }
     let mut bytes = Vec::new();
-    let mut front = file.take(MOST as u64);
-    front.read_to_end(&mut bytes).map_err(unread)?;
+    let mut limited = file.take(MOST as u64);
+    limited.read_to_end(&mut bytes).map_err(unread)?;
     Ok(bytes)
 }
 
@@ -102,24 +103,24 @@ fn unread(error: io::Error) -> Failure {
     })
 }
 
-fn form_of(name: &OsStr, form: Form) -> Form {
+fn content_of(name: &OsStr, content: Content) -> Content {
     let named_text = name.as_bytes().ends_with(b".hex");
-    match form {
-        Form::Unsaid if named_text => Form::Text,
-        _ => form,
+    match content {
+        Content::Unsaid if named_text => Content::Text,
+        _ => content,
     }
 }
 
-/// What the bytes of a file are in its form.
-fn given(bytes: Vec<u8>, form: Form) -> Result<Given, Failure> {
-    match form {
-        Form::Bytes => Ok(Given { bytes, note: None }),
-        Form::Text => {
+/// What the bytes of a file give, taken as what they are said to be.
+fn given(bytes: Vec<u8>, content: Content) -> Result<Given, Failure> {
+    match content {
+        Content::Bytes => Ok(Given { bytes, note: None }),
+        Content::Text => {
             is_short(&bytes)?;
             let bytes = text::parse(&bytes).map_err(Failure::NoText)?;
             Ok(Given { bytes, note: None })
         }
-        Form::Unsaid => given_by_look(bytes),
+        Content::Unsaid => given_by_look(bytes),
     }
 }
 
@@ -153,12 +154,12 @@ mod tests {
     use super::*;
 
     #[test]
-    fn forms() {
-        let form = |name: &str, form| form_of(OsStr::new(name), form);
-        assert_eq!(form("a.book", Form::Unsaid), Form::Unsaid);
-        assert_eq!(form("a.hex", Form::Unsaid), Form::Text);
-        assert_eq!(form("a.hex", Form::Bytes), Form::Bytes);
-        assert_eq!(form("-", Form::Text), Form::Text);
+    fn what_a_name_says() {
+        let content = |name: &str, content| content_of(OsStr::new(name), content);
+        assert_eq!(content("a.book", Content::Unsaid), Content::Unsaid);
+        assert_eq!(content("a.hex", Content::Unsaid), Content::Text);
+        assert_eq!(content("a.hex", Content::Bytes), Content::Bytes);
+        assert_eq!(content("-", Content::Text), Content::Text);
     }
 
     fn bytes(bytes: &[u8], note: Option<&'static str>) -> Result<Given, Failure> {
@@ -169,19 +170,19 @@ mod tests {
     #[test]
     fn what_is_given() {
         let text = b"30 0C # none";
-        assert_eq!(given(text.to_vec(), Form::Text), bytes(&[48, 12], None));
-        assert_eq!(given(text.to_vec(), Form::Bytes), bytes(text, None));
-        let Ok(unsaid) = given(text.to_vec(), Form::Unsaid) else {
+        assert_eq!(given(text.to_vec(), Content::Text), bytes(&[48, 12], None));
+        assert_eq!(given(text.to_vec(), Content::Bytes), bytes(text, None));
+        let Ok(unsaid) = given(text.to_vec(), Content::Unsaid) else {
             panic!("it is taken as bytes");
         };
         assert_eq!(unsaid.bytes, text);
         assert!(unsaid.note.unwrap().ends_with("so taken as bytes"));
-        assert_eq!(given(vec![1, 3], Form::Unsaid), bytes(&[1, 3], None));
+        assert_eq!(given(vec![1, 3], Content::Unsaid), bytes(&[1, 3], None));
         assert_eq!(
-            given(b"01 3".to_vec(), Form::Unsaid).unwrap().bytes,
+            given(b"01 3".to_vec(), Content::Unsaid).unwrap().bytes,
             b"01 3"
         );
-        let message = given(b"01\n3".to_vec(), Form::Text).unwrap_err();
+        let message = given(b"01\n3".to_vec(), Content::Text).unwrap_err();
         let message = message.message(OsStr::new("a.hex"));
         assert_eq!(message, b"a.hex:2:1: an odd number of digits");
     }
@@ -189,11 +190,11 @@ mod tests {
     #[test]
     fn long_text() {
         let long = Err(Failure::Unread("text of 4 MiB or more".to_string()));
-        assert_eq!(given(vec![b'0'; MOST], Form::Unsaid), long);
-        assert_eq!(given(vec![b'0'; MOST], Form::Text), long);
-        assert!(given(vec![b'0'; MOST - 2], Form::Text).is_ok());
+        assert_eq!(given(vec![b'0'; MOST], Content::Unsaid), long);
+        assert_eq!(given(vec![b'0'; MOST], Content::Text), long);
+        assert!(given(vec![b'0'; MOST - 2], Content::Text).is_ok());
         assert_eq!(
-            given(vec![0; MOST], Form::Unsaid).unwrap().bytes.len(),
+            given(vec![0; MOST], Content::Unsaid).unwrap().bytes.len(),
             MOST
         );
     }

@@ -26,7 +26,7 @@ fn answer<C: Counted + Display>(
     ask: fn(&[u8]) -> Verdict<C>,
 ) -> Answer {
     let mut answer = Answer::new();
-    let Some(bytes) = answer.read(file, options.form) else {
+    let Some(bytes) = answer.read(file, options.content) else {
         return answer;
     };
     let verdict = ask(&bytes);

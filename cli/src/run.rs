@@ -7,45 +7,52 @@ use crate::json::{Json, Pairs};
 use crate::layout::{BOOK, LIST};
 use crate::verdict::Told;
 use std::ffi::OsStr;
-use xemdulba::{Cell, Job, Refusal, Run, Value};
+use xemdulba::{Cell, Job, Run, Value};
 
 pub fn answer(book_file: &OsStr, list_file: &OsStr, options: Options) -> Answer {
     let mut answer = Answer::new();
-    let Some(book) = answer.read(book_file, options.form) else {
+    let Some(book) = answer.read(book_file, options.content) else {
         return answer;
     };
-    let Some(list) = answer.read(list_file, options.form) else {
+    let Some(list) = answer.read(list_file, options.content) else {
         return answer;
     };
-    tell(
-        &mut answer,
-        (book_file, &book),
-        (list_file, &list),
-        options.json,
-    );
+    let book = Source {
+        file: book_file,
+        bytes: &book,
+    };
+    let list = Source {
+        file: list_file,
+        bytes: &list,
+    };
+    tell(&mut answer, book, list, options.json);
     answer
 }
 
 /// A file, and what it holds.
-type Source<'f> = (&'f OsStr, &'f [u8]);
+#[derive(Clone, Copy)]
+struct Source<'f> {
+    file: &'f OsStr,
+    bytes: &'f [u8],
+}
 
 fn tell(answer: &mut Answer, book: Source, list: Source, json: bool) {
-    match xemdulba::run(book.1, list.1) {
+    match xemdulba::run(book.bytes, list.bytes) {
         Ok(run) => {
-            let unchecked = check::check(book.1).err();
+            let unchecked = check::check(book.bytes).err();
             if json {
                 tell_objects(answer, &run, unchecked);
             } else {
-                tell_run(answer, &run, book.0, unchecked);
+                tell_run(answer, &run, book.file, unchecked);
             }
         }
-        Err(refusal @ Refusal { number: 9, .. }) => {
-            let told = Told::of(&LIST, list.1, refusal);
-            tell_refusal(answer, list.0, &told, json);
-        }
         Err(refusal) => {
-            let told = Told::of(&BOOK, book.1, refusal);
-            tell_refusal(answer, book.0, &told, json);
+            let (layout, at_fault) = match refusal.number {
+                9 => (&LIST, list),
+                _ => (&BOOK, book),
+            };
+            let told = Told::of(layout, at_fault.bytes, refusal);
+            tell_refusal(answer, at_fault.file, &told, json);
         }
     }
 }

@@ -16,7 +16,7 @@ fn wrong(words: &[&str]) -> String {
 const PLAIN: Options = Options {
     json: false,
     bytes: false,
-    form: Form::Unsaid,
+    content: Content::Unsaid,
 };
 
 fn check(files: &[&str], options: Options) -> Result<Request, String> {
@@ -28,7 +28,7 @@ fn check(files: &[&str], options: Options) -> Result<Request, String> {
 fn options_stand_anywhere_behind_the_verb() {
     let options = Options {
         json: true,
-        form: Form::Text,
+        content: Content::Text,
         ..PLAIN
     };
     let expected = check(&["a", "b"], options);
@@ -37,7 +37,7 @@ fn options_stand_anywhere_behind_the_verb() {
     let request = asked(&["list", "--bytes", "--raw", "a"]);
     let options = Options {
         bytes: true,
-        form: Form::Bytes,
+        content: Content::Bytes,
         ..PLAIN
     };
     let book = "a".into();

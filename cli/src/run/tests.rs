@@ -8,8 +8,14 @@ fn told(book: &str, list: &str, json: bool) -> (String, String, Status) {
     let bytes = |hex: &str| text::parse(hex.as_bytes()).unwrap();
     let mut answer = Answer::new();
     let (book, list) = (bytes(book), bytes(list));
-    let book = (OsStr::new("book"), book.as_slice());
-    let list = (OsStr::new("list"), list.as_slice());
+    let book = Source {
+        file: OsStr::new("book"),
+        bytes: &book,
+    };
+    let list = Source {
+        file: OsStr::new("list"),
+        bytes: &list,
+    };
     tell(&mut answer, book, list, json);
     let text = |bytes| String::from_utf8(bytes).unwrap();
     (text(answer.out), text(answer.notes), answer.status)
