@@ -1,12 +1,14 @@
 /* desk BOOK EVENTS: checks a book and, where it is accepted, runs it on a list of events.
- * Exit status: 0 it ran, 1 refused, 2 no answer.
+ * Exit status: 0 it ran, 1 refused, 2 no answer, or it cannot be written.
  *
  * From the repository's folder, once `rt staticlib xemdulba` has written the library:
  *   cc -std=c99 -Iinclude bindings/c/desk.c target/staticlib/libxemdulba.a -o target/desk
  */
 #include "xemdulba.h"
 
+#include <errno.h>
 #include <inttypes.h>
+#include <signal.h>
 #include <stdio.h>
 #include <string.h>
 
@@ -102,7 +104,7 @@ static int desk(size_t book_length, size_t list_length)
     struct xemdulba_checked checked = xemdulba_check(book, book_length);
     struct xemdulba_ran ran;
 
-    if (checked.refusal != 0) {
+    if (checked.refusal != XEMDULBA_NOT_REFUSED) {
         return refused(checked.refusal, checked.place);
     }
     printf("accepted shapes %" PRIu32 " cells %" PRIu32, checked.shapes, checked.cells);
@@ -110,10 +112,22 @@ static int desk(size_t book_length, size_t list_length)
 
     memset(answers, UNANSWERED, sizeof answers);
     ran = xemdulba_run(book, book_length, list, list_length, cells, sizeof cells, jobs, sizeof jobs, answers, sizeof answers);
-    if (ran.refusal != 0) {
+    if (ran.refusal != XEMDULBA_NOT_REFUSED) {
         return refused(ran.refusal, ran.place);
     }
     print_run(ran);
+    return 0;
+}
+
+/* Whether all that was printed is written. If not, says why; a reader who has gone away wants to hear nothing. */
+static int written(void)
+{
+    if (fflush(stdout) == 0 && !ferror(stdout)) {
+        return 1;
+    }
+    if (errno != EPIPE) {
+        perror("desk: standard output");
+    }
     return 0;
 }
 
@@ -129,10 +143,9 @@ int main(int count, char **arguments)
     if (!read_file(arguments[1], book, sizeof book, &book_length) || !read_file(arguments[2], list, sizeof list, &list_length)) {
         return 2;
     }
+#ifdef SIGPIPE
+    signal(SIGPIPE, SIG_IGN); /* so that a broken pipe is an error, with an exit status */
+#endif
     status = desk(book_length, list_length);
-    if (fflush(stdout) != 0 || ferror(stdout)) {
-        perror("desk");
-        return 2;
-    }
-    return status;
+    return written() ? status : 2;
 }

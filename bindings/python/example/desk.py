@@ -1,11 +1,15 @@
 """desk BOOK EVENTS: checks a book and, where it is accepted, runs it on a list of events.
 
-Exit status: 0 it ran, 1 refused, 2 no answer.
+Exit status: 0 it ran, 1 refused, 2 no answer, or it cannot be written.
 """
 
+import contextlib
+import os
 import sys
 from pathlib import Path
 
+# From the source folder, which stays as it is. An installed package needs neither line.
+sys.dont_write_bytecode = True
 sys.path.insert(0, str(Path(__file__).resolve().parents[1]))
 
 import xemdulba  # noqa: E402
@@ -33,28 +37,45 @@ def run_lines(run: xemdulba.Run) -> list[str]:
     return lines
 
 
-def desk(book: bytes, events: bytes) -> int:
-    """Prints the verdict and what the run gives, and returns the exit status."""
+def desk(book: bytes, events: bytes) -> tuple[int, list[str]]:
+    """The exit status, and the lines of the verdict and of what the run gives."""
+    lines = []
     try:
-        print(xemdulba.check(book))
-        print("\n".join(run_lines(xemdulba.run(book, events))))
+        lines.append(str(xemdulba.check(book)))
+        lines.extend(run_lines(xemdulba.run(book, events)))
     except xemdulba.Refusal as refusal:
-        print(refusal)
-        return 1
-    return 0
+        return 1, [*lines, str(refusal)]
+    return 0, lines
+
+
+def write(lines: list[str]) -> None:
+    """Writes to standard output. print() says nothing where that is closed, and tries again at the end what has failed."""
+    try:
+        with open(1, "wb", closefd=False) as output:
+            output.write("".join(f"{line}\n" for line in lines).encode())
+    except OSError as error:
+        error.filename = "standard output"
+        raise
+
+
+def complain(words: str) -> int:
+    """Says it on standard error, if that can be written; gives the exit status that goes with it."""
+    with contextlib.suppress(OSError):
+        os.write(2, f"{words}\n".encode(errors="backslashreplace"))
+    return 2
 
 
 def main(arguments: list[str]) -> int:
     if len(arguments) != 2:
-        print("usage: desk BOOK EVENTS", file=sys.stderr)
-        return 2
+        return complain("usage: desk BOOK EVENTS")
     try:
         book, events = (Path(argument).read_bytes() for argument in arguments)
-        status = desk(book, events)
-        sys.stdout.flush()
+        status, lines = desk(book, events)
+        write(lines)
+    except BrokenPipeError:
+        return 2  # a reader who has gone away wants to hear nothing
     except OSError as error:
-        print(f"desk: {error}", file=sys.stderr)
-        return 2
+        return complain(f"desk: {error}")
     return status
 
 

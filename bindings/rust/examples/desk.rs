@@ -1,9 +1,11 @@
 //! `desk BOOK EVENTS`: checks a book and, where it is accepted, runs it on a list of events.
-//! Exit status: 0 it ran, 1 refused, 2 no answer.
+//! Exit status: 0 it ran, 1 refused, 2 no answer, or it cannot be written.
 
 use std::ffi::OsString;
 use std::fmt::{self, Write as _};
-use std::io::{self, Write as _};
+use std::fs::File;
+use std::io::{self, ErrorKind, Write as _};
+use std::os::fd::AsFd;
 use std::path::Path;
 use std::process::ExitCode;
 use xemdulba::{Cell, Job, Refusal, Run, Value};
@@ -11,16 +13,20 @@ use xemdulba::{Cell, Job, Refusal, Run, Value};
 fn main() -> ExitCode {
     let arguments: Vec<OsString> = std::env::args_os().skip(1).collect();
     let [book, events] = &arguments[..] else {
-        eprintln!("usage: desk BOOK EVENTS");
-        return ExitCode::from(2);
+        return complain("usage: desk BOOK EVENTS");
     };
     match answer(book, events) {
         Ok(status) => ExitCode::from(status),
-        Err(error) => {
-            eprintln!("desk: {error}");
-            ExitCode::from(2)
-        }
+        // A reader who has gone away wants to hear nothing.
+        Err(error) if error.kind() == ErrorKind::BrokenPipe => ExitCode::from(2),
+        Err(error) => complain(&format!("desk: {error}")),
     }
+}
+
+/// Says it on standard error, if that can be written; gives the exit status that goes with it.
+fn complain(words: &str) -> ExitCode {
+    let _ = writeln!(io::stderr(), "{words}");
+    ExitCode::from(2)
 }
 
 /// Prints what the files give, and chooses the exit status.
@@ -34,8 +40,56 @@ fn answer(book: &OsString, events: &OsString) -> io::Result<u8> {
             1
         }
     };
-    io::stdout().write_all(text.as_bytes())?;
+    let named =
+        |error: io::Error| io::Error::new(error.kind(), format!("standard output: {error}"));
+    write(&text).map_err(named)?;
     Ok(status)
+}
+
+/// Writes to standard output. A file of our own on its descriptor reports every error; the one of
+/// `io::stdout` takes a descriptor that cannot be written for one that takes everything.
+fn write(text: &str) -> io::Result<()> {
+    if before_main::output_was_closed() {
+        return Err(io::Error::other("it is closed"));
+    }
+    File::from(io::stdout().as_fd().try_clone_to_owned()?).write_all(text.as_bytes())
+}
+
+/// Whether standard output was closed. The runtime of Rust opens /dev/null, to read and write, in
+/// its place before `main`, and then nothing tells it from a caller that gave /dev/null so, as
+/// Python's `subprocess.DEVNULL` does. So it is asked before: the system's loader calls what stands
+/// in `.init_array` first. Where there is no such section, closed output is taken for /dev/null.
+#[cfg(target_os = "linux")]
+mod before_main {
+    use std::ffi::c_int;
+    use std::sync::atomic::{AtomicBool, Ordering::Relaxed};
+
+    static CLOSED: AtomicBool = AtomicBool::new(false);
+
+    #[used]
+    #[link_section = ".init_array"]
+    static ASK: extern "C" fn() = ask;
+
+    extern "C" {
+        fn fcntl(descriptor: c_int, command: c_int, ...) -> c_int;
+    }
+
+    extern "C" fn ask() {
+        const F_GETFD: c_int = 1;
+        // SAFETY: this asks for the flags of descriptor 1; it changes nothing.
+        CLOSED.store(unsafe { fcntl(1, F_GETFD) } == -1, Relaxed);
+    }
+
+    pub fn output_was_closed() -> bool {
+        CLOSED.load(Relaxed)
+    }
+}
+
+#[cfg(not(target_os = "linux"))]
+mod before_main {
+    pub fn output_was_closed() -> bool {
+        false
+    }
 }
 
 fn read(path: &OsString) -> io::Result<Vec<u8>> {
