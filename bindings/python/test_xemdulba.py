@@ -11,7 +11,9 @@ from pathlib import Path
 import xemdulba
 from xemdulba import Answer, Cell, Fields, Kind, Refusal, Value
 
-HEADER = (Path(__file__).resolve().parents[2] / "include" / "xemdulba.h").read_text(encoding="utf-8")
+SOURCES = Path(__file__).resolve().parents[2]
+HEADER = (SOURCES / "include" / "xemdulba.h").read_text(encoding="utf-8")
+LIBRARY = (SOURCES / "docs" / "LIBRARY.md").read_text(encoding="utf-8")
 
 BOOK_A = bytes.fromhex("01 03  10  12 00 09  20 01 09 00 05 00 00 00  30 0C  41 00 00  40 01 07 00 00 00  46 00 01")
 BOOK_A2 = BOOK_A[:15] + b"\x08" + BOOK_A[16:]
@@ -141,6 +143,7 @@ class Told(unittest.TestCase):
     def test_book_a_is_walked(self):
         offsets, offset = [], 0
         while (fields := xemdulba.record(BOOK_A, offset)) is not None:
+            self.assertGreater(fields.next, offset)
             offsets.append(offset)
             offset = fields.next
         self.assertEqual((offsets, offset), ([0, 2, 3, 6, 14, 16, 19, 25], len(BOOK_A)))
@@ -161,6 +164,11 @@ class Words(unittest.TestCase):
         for comment, number in commented:
             words = " ".join(word for word in comment.split() if word != "*")
             self.assertEqual(Refusal(int(number), 0).rule, words)
+
+    def test_the_documents_table_of_constants_is_the_headers(self):
+        listed = re.findall(r"(XEMDULBA_REFUSED_\w+) = (\d+)", HEADER)
+        shown = re.findall(r"\| (\d+) \| `(XEMDULBA_REFUSED_\w+)`", LIBRARY)
+        self.assertEqual(sorted((int(number), name) for number, name in shown), [(int(number), name) for name, number in listed])
 
     def test_other_numbers_have_no_rule(self):
         for number in (-1, 0, 13):

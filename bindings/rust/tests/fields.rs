@@ -135,6 +135,7 @@ fn nothing_is_told_past_the_end() {
 fn walk(call: Call, bytes: &[u8]) -> (Vec<usize>, usize) {
     let (mut offsets, mut offset) = (vec![], 0);
     while let Some(fields) = call(bytes, offset) {
+        assert!(fields.next > offset);
         offsets.push(offset);
         offset = fields.next;
     }
