@@ -2,6 +2,7 @@
 
 pub mod check_books;
 pub mod differ;
+pub mod event_lists;
 pub mod file;
 pub mod generate;
 pub mod large;

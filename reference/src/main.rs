@@ -6,27 +6,35 @@
 //! `reference verdict` reads such a file on standard input and prints one verdict per book.
 //! `reference runs` writes the file of test runs.
 //! `reference run-answers` reads such a file on standard input and prints one line per run.
-//! `reference run BOOK EVENTS` prints in words what the events of a file do on the book in another.
+//! `reference run BOOK EVENTS ..` prints in words what the events of a file do on the book in
+//! another, for each two files.
 //! `reference differ N` compares the two machines of the reference on N runs by chance.
-//! `reference check FILE` prints the verdict on the one book in a file.
-//! `reference list FILE` prints that book in words.
-//! `reference pick N` reads a file of test books on standard input and writes book N, from 0.
+//! `reference check FILE ..` prints the verdict on the one book in each file.
+//! `reference list [--bytes] FILE ..` prints those books in words, with the bytes of each record.
+//! `reference event-lists` writes the file of test lists of events, laid out as one of test books.
+//! `reference events [--bytes] FILE ..` prints the list of events in each file in words.
+//! `reference unpack FOLDER` reads a file of test books on standard input and writes each to a
+//! file of its own: the first is FOLDER/0.
+//! `reference unpack-runs FOLDER` does so with a file of test runs: FOLDER/0.book, FOLDER/0.events.
 
-use reference::cases::{check_books, differ, file, generate, runs};
+use reference::cases::{check_books, differ, event_lists, file, generate, runs};
 use reference::check;
 use reference::model::machine;
-use reference::printing::{answer, listing, run_answer, run_words};
+use reference::printing::line::Show;
+use reference::printing::{answer, events, listing, run_answer, run_words};
 use std::ffi::OsString;
 use std::fmt::Display;
 use std::io::{self, Read, Write};
+use std::path::Path;
 use std::process::ExitCode;
 
 const USAGE: &str = "usage: reference books | read | check-books | verdict | runs | run-answers
-       | run BOOK EVENTS | differ N | check FILE | list FILE | pick N";
+       | run BOOK EVENTS .. | differ N | check FILE .. | list [--bytes] FILE .. | event-lists
+       | events [--bytes] FILE .. | unpack FOLDER | unpack-runs FOLDER";
 
 fn main() -> ExitCode {
-    let mut arguments = std::env::args_os().skip(1);
-    match run(arguments.next(), arguments.next(), arguments.next()) {
+    let arguments: Vec<OsString> = std::env::args_os().skip(1).collect();
+    match run(&arguments) {
         Ok(()) => ExitCode::SUCCESS,
         Err(error) => {
             eprintln!("reference: {error}");
@@ -35,26 +43,29 @@ fn main() -> ExitCode {
     }
 }
 
-fn run(
-    command: Option<OsString>,
-    path: Option<OsString>,
-    events: Option<OsString>,
-) -> io::Result<()> {
-    let word = command.as_ref().and_then(|word| word.to_str());
-    match (word, path) {
-        (Some("books"), _) => write_books(&generate::books()),
-        (Some("read"), _) => print_lines(reading),
-        (Some("check-books"), _) => write_books(&check_books::books()),
-        (Some("verdict"), _) => print_lines(|_, book| check(book)),
-        (Some("runs"), _) => io::stdout().write_all(&runs::file::join(&runs::all())),
-        (Some("run-answers"), _) => print_answers(),
-        (Some("run"), Some(path)) => print_run(path, events),
-        (Some("differ"), Some(count)) => print_difference(count),
-        (Some("check"), Some(path)) => print_verdict(path),
-        (Some("list"), Some(path)) => print_listing(path),
-        (Some("pick"), Some(index)) => pick_book(index),
-        _ => Err(io::Error::other(USAGE)),
+fn run(arguments: &[OsString]) -> io::Result<()> {
+    let (word, rest) = arguments.split_first().ok_or_else(usage)?;
+    match (word.to_str(), rest) {
+        (Some("books"), []) => write_books(&generate::books()),
+        (Some("read"), []) => print_lines(reading),
+        (Some("check-books"), []) => write_books(&check_books::books()),
+        (Some("verdict"), []) => print_lines(|_, book| check(book)),
+        (Some("runs"), []) => io::stdout().write_all(&runs::file::join(&runs::all())),
+        (Some("run-answers"), []) => print_answers(),
+        (Some("run"), paths) => print_runs(paths),
+        (Some("differ"), [count]) => print_difference(count),
+        (Some("check"), paths) => print_each(paths, |book| format!("{}\n", check(book))),
+        (Some("list"), rest) => print_listings(rest, listing::text),
+        (Some("event-lists"), []) => write_books(&event_lists::lists()),
+        (Some("events"), rest) => print_listings(rest, events::text),
+        (Some("unpack"), [folder]) => unpack_books(folder.as_ref()),
+        (Some("unpack-runs"), [folder]) => unpack_runs(folder.as_ref()),
+        _ => Err(usage()),
     }
+}
+
+fn usage() -> io::Error {
+    io::Error::other(USAGE)
 }
 
 fn write_books(books: &[Vec<u8>]) -> io::Result<()> {
@@ -91,24 +102,25 @@ fn print_answers() -> io::Result<()> {
     out.flush()
 }
 
-fn print_run(book: OsString, events: Option<OsString>) -> io::Result<()> {
-    let events = events.ok_or_else(|| io::Error::other(USAGE))?;
-    let (book, events) = (std::fs::read(book)?, std::fs::read(events)?);
-    let (outcome, lent) = runs::outcome(machine::run, &runs::Run::new(book, events));
-    print!("{}", run_words::text(outcome, &lent));
-    Ok(())
+fn print_runs(paths: &[OsString]) -> io::Result<()> {
+    if paths.is_empty() || paths.len() % 2 == 1 {
+        return Err(usage());
+    }
+    let mut out = io::BufWriter::new(io::stdout().lock());
+    for pair in paths.chunks(2) {
+        let (book, events) = (std::fs::read(&pair[0])?, std::fs::read(&pair[1])?);
+        let (outcome, lent) = runs::outcome(machine::run, &runs::Run::new(book, events));
+        out.write_all(run_words::text(outcome, &lent).as_bytes())?;
+    }
+    out.flush()
 }
 
 /// The seed of the runs by chance.
 const SEED: u64 = 0x5EED_0040;
 
-fn number(word: OsString) -> io::Result<usize> {
-    let number = word.to_str().and_then(|word| word.parse().ok());
-    number.ok_or_else(|| io::Error::other(USAGE))
-}
-
-fn print_difference(count: OsString) -> io::Result<()> {
-    let count = number(count)?;
+fn print_difference(count: &OsString) -> io::Result<()> {
+    let count = count.to_str().and_then(|word| word.parse().ok());
+    let count = count.ok_or_else(usage)?;
     match differ::differ(SEED, count, machine::run, machine::fast::run, |_| {}) {
         Some(difference) => Err(io::Error::other(format!("{difference:?}"))),
         None => {
@@ -118,19 +130,40 @@ fn print_difference(count: OsString) -> io::Result<()> {
     }
 }
 
-fn print_verdict(path: OsString) -> io::Result<()> {
-    println!("{}", check(&std::fs::read(path)?));
+/// What is printed of the bytes of each file.
+fn print_each(paths: &[OsString], text: impl Fn(&[u8]) -> String) -> io::Result<()> {
+    if paths.is_empty() {
+        return Err(usage());
+    }
+    let mut out = io::BufWriter::new(io::stdout().lock());
+    for path in paths {
+        out.write_all(text(&std::fs::read(path)?).as_bytes())?;
+    }
+    out.flush()
+}
+
+fn print_listings(words: &[OsString], text: fn(&[u8], Show) -> String) -> io::Result<()> {
+    match words {
+        [option, paths @ ..] if option == "--bytes" => {
+            print_each(paths, |bytes| text(bytes, Show::BytesAndWords))
+        }
+        paths => print_each(paths, |bytes| text(bytes, Show::Words)),
+    }
+}
+
+fn unpack_books(folder: &Path) -> io::Result<()> {
+    let bytes = standard_input()?;
+    for (index, book) in file::split(&bytes)?.into_iter().enumerate() {
+        std::fs::write(folder.join(index.to_string()), book)?;
+    }
     Ok(())
 }
 
-fn print_listing(path: OsString) -> io::Result<()> {
-    print!("{}", listing::text(&std::fs::read(path)?));
+fn unpack_runs(folder: &Path) -> io::Result<()> {
+    let runs = runs::file::split(&standard_input()?)?;
+    for (index, run) in runs.iter().enumerate() {
+        std::fs::write(folder.join(format!("{index}.book")), &run.book)?;
+        std::fs::write(folder.join(format!("{index}.events")), &run.events)?;
+    }
     Ok(())
-}
-
-fn pick_book(index: OsString) -> io::Result<()> {
-    let (index, bytes) = (number(index)?, standard_input()?);
-    let books = file::split(&bytes)?;
-    let book = books.get(index);
-    io::stdout().write_all(book.ok_or_else(|| io::Error::other("no such book"))?)
 }

@@ -2,6 +2,8 @@
 
 pub mod answer;
 pub mod checksum;
+pub mod events;
+pub mod line;
 pub mod listing;
 pub mod run_answer;
 pub mod run_words;

@@ -3,7 +3,7 @@
 
 mod again;
 pub(crate) mod chance;
-mod events;
+pub(crate) mod events;
 mod fields;
 pub mod file;
 mod full;

@@ -1,5 +1,6 @@
-//! A book in words: a line for each record with its offset, and the verdict as the last line. A
-//! refused book is listed up to the record at fault, which is marked.
+//! A book in words: a line for each record with its offset, and the verdict as the last line. The
+//! record at fault is marked, and those behind it are listed as they stand: only where a record
+//! cannot be read, or the book is too long, the listing ends.
 
 mod fault;
 #[cfg(test)]
@@ -9,8 +10,9 @@ mod words;
 use crate::model::book::record::{split, Content, Record};
 use crate::model::book::Refusal;
 use crate::model::typing::{check, Verdict};
+use crate::printing::line::{line, Show};
 
-/// How many records of each group stand so far; of steps, how many in the last block.
+/// How many records of each group stand so far; of steps, how many behind the last block.
 #[derive(Clone, Copy, Default)]
 struct Numbers {
     shapes: usize,
@@ -35,31 +37,35 @@ impl Numbers {
 }
 
 /// The listing of a book.
-pub fn text(bytes: &[u8]) -> String {
+pub fn text(bytes: &[u8], show: Show) -> String {
     let verdict = check(bytes);
     let refusal = match verdict {
         Verdict::Accepted { .. } => None,
         Verdict::Refused { number, place } => Some(Refusal { number, place }),
     };
-    let end = refusal.map_or(bytes.len(), |refusal| refusal.place);
     let mut numbers = Numbers::default();
     let mut text = String::new();
-    for record in whole(&bytes[..end]) {
-        let words = words::record(&record.content, numbers);
-        text += &line(record.place, &words);
-        numbers.count(&record.content);
+    for record in readable(bytes, refusal) {
+        let (place, content) = (record.place, &record.content);
+        let mut words = words::record(content, numbers);
+        if let Some(refusal) = refusal.filter(|refusal| refusal.place == place) {
+            words += &fault::mark(refusal, fault::reason(content, refusal));
+        }
+        text += &line(show, place, &bytes[place..place + record.size], &words);
+        numbers.count(content);
     }
     if let Some(refusal) = refusal {
-        text += &line(refusal.place, &fault::words(bytes, numbers, refusal));
+        text += &fault::without_record(bytes, refusal, show).unwrap_or_default();
     }
     text + &format!("{verdict}\n")
 }
 
-/// The records of bytes that refusal 2 does not hold of.
-fn whole(bytes: &[u8]) -> Vec<Record> {
-    split(bytes).unwrap_or_else(|_| unreachable!("a refusal's place is where a record begins"))
-}
-
-fn line(place: usize, words: &str) -> String {
-    format!("{place:>5}  {words}\n")
+/// The records that are listed: of a book that is too long none, and else all that can be read.
+fn readable(bytes: &[u8], refusal: Option<Refusal>) -> Vec<Record> {
+    let end = match refusal {
+        Some(Refusal { number: 1, .. }) => 0,
+        Some(Refusal { number: 2, place }) => place,
+        _ => bytes.len(),
+    };
+    split(&bytes[..end]).unwrap_or_else(|_| unreachable!("refusal 2 has the first such place"))
 }

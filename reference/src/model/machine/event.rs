@@ -2,7 +2,7 @@
 
 use crate::model::book::{refuse, Refusal};
 
-const LONGEST_LIST: usize = 65_536;
+pub const LONGEST_LIST: usize = 65_536;
 
 /// Kinds of event.
 pub const STEP: u8 = 80;

@@ -1,24 +1,31 @@
-//! The words of a record at fault: what stands there, and what the refusal means of it.
+//! What a refusal means of the record at fault, and the line where no record can be marked.
 
-use super::{whole, words, Numbers};
 use crate::model::book::record::Content;
 use crate::model::book::{Refusal, Shape, Step};
+use crate::printing::line::{line, Show};
 
-pub fn words(bytes: &[u8], numbers: Numbers, refusal: Refusal) -> String {
+/// What stands behind the words of the record at fault.
+pub fn mark(refusal: Refusal, reason: &str) -> String {
+    format!("  <- refused {}: {reason}", refusal.number)
+}
+
+/// The last line of a book of which no record is at fault, or one that cannot be read.
+pub fn without_record(bytes: &[u8], refusal: Refusal, show: Show) -> Option<String> {
     let Refusal { number, place } = refusal;
-    let (stands, reason) = match (number, bytes.get(place)) {
-        (1, _) => (
-            "start of the book".to_string(),
-            "the book is longer than 32768 bytes",
-        ),
-        (2, Some(&kind)) => unreadable(kind),
-        (_, None) => ("end of the book".to_string(), missing(place)),
-        (_, Some(_)) => {
-            let content = &whole(&bytes[place..])[0].content;
-            (words::record(content, numbers), reason(content, refusal))
-        }
+    let ((stands, reason), shown) = match (number, bytes.get(place)) {
+        (1, _) => (too_long(), &[][..]),
+        (2, Some(&kind)) => (unreadable(kind), &bytes[place..]),
+        (_, None) => (missing(place), &[][..]),
+        (_, Some(_)) => return None,
     };
-    format!("{stands}  <- refused {number}: {reason}")
+    let words = stands + &mark(refusal, reason);
+    Some(line(show, place, shown, &words))
+}
+
+/// Refusal 1: "The book is longer than 32,768 bytes."
+fn too_long() -> (String, &'static str) {
+    let stands = "start of the book".to_string();
+    (stands, "the book is longer than 32768 bytes")
 }
 
 /// Refusal 2: "A kind is none of the above, or the book ends inside a body."
@@ -49,16 +56,16 @@ fn name(kind: u8) -> Option<&'static str> {
 }
 
 /// Refusal 3 at the end of a book.
-fn missing(length: usize) -> &'static str {
-    if length == 0 {
-        "the first record is missing"
-    } else {
-        "no block stands"
-    }
+fn missing(length: usize) -> (String, &'static str) {
+    let reason = match length {
+        0 => "the first record is missing",
+        _ => "no block stands",
+    };
+    ("end of the book".to_string(), reason)
 }
 
 /// What a refusal by 3 to 8 means of a record.
-fn reason(content: &Content, refusal: Refusal) -> &'static str {
+pub fn reason(content: &Content, refusal: Refusal) -> &'static str {
     match refusal {
         Refusal {
             number: 3,

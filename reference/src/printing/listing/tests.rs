@@ -1,7 +1,11 @@
 //! Expectations written by hand.
 
-use super::text;
 use crate::model::book::tests::{hex, A};
+use crate::printing::line::Show;
+
+fn text(bytes: &[u8]) -> String {
+    super::text(bytes, Show::Words)
+}
 
 const LISTED_A: &str = "    0  C          3
     2  shape 0    plain
@@ -20,20 +24,64 @@ fn book_a() {
 }
 
 #[test]
-fn a_refused_book_ends_at_the_record_at_fault() {
+fn a_refused_book_is_listed_to_its_end() {
     let a4 = hex(&A.replace("20 01 09", "20 01 08"));
-    let lines: Vec<&str> = LISTED_A.lines().take(3).collect();
-    let fault = "    6  cell 0     shape 1, label 8, plain 5  <- refused 7: a cell declaration \
-                 breaks its typing rule";
-    let expected = [&lines[..], &[fault, "refused 7 at 6", ""]].concat();
-    assert_eq!(text(&a4), expected.join("\n"));
+    let cell = "cell 0     shape 1, label 9, plain 5";
+    let fault =
+        "cell 0     shape 1, label 8, plain 5  <- refused 7: a cell declaration breaks its \
+                 typing rule";
+    let expected = LISTED_A.replace(cell, fault);
+    let counts = "accepted shapes 2 cells 1 blocks 1 steps 3";
+    assert_eq!(text(&a4), expected.replace(counts, "refused 7 at 6"));
 }
 
-/// The line before the last, from its offset on.
+#[test]
+fn records_behind_a_fault_are_numbered_on() {
+    let words = "48 01  48 02  10  30 03  48 04  01 05  48 06  20 07 08 09 0A 00 00 00  10  30 0B
+        48 0C";
+    let expected = "    0    step 0   lower   1  <- refused 3: the first record is not C
+    2    step 1   lower   2
+    4  shape 0    plain
+    5  block 0    bound 3
+    7    step 0   lower   4
+    9  C          5
+   11    step 1   lower   6
+   13  cell 0     shape 7, label 8, value kind 9 10
+   21  shape 1    plain
+   22  block 1    bound 11
+   24    step 0   lower   12
+refused 3 at 0
+";
+    assert_eq!(text(&hex(words)), expected);
+}
+
+#[test]
+fn records_with_their_bytes() {
+    let listed = |words: &str| super::text(&hex(words), Show::BytesAndWords);
+    let c = "    0  01 0C                    C          12\n";
+    let shape = "    2  10                       shape 0    plain\n";
+    let blank = " ".repeat(25);
+    let end = format!("    3  {blank}end of the book  <- refused 3: no block stands\n");
+    let expected = format!("{c}{shape}{end}refused 3 at 3\n");
+    assert_eq!(listed("01 0C 10"), expected);
+    let cut = "    2  20 01 09 00 05 00 00     kind 32 (cell)  <- refused 2: the book ends inside \
+               the record\n";
+    let expected = format!("{c}{cut}refused 2 at 2\n");
+    assert_eq!(listed("01 0C 20 01 09 00 05 00 00"), expected);
+    let unknown =
+        "    2  AB CD EF 01 02 03 04 05  kind 171  <- refused 2: no record has this kind\n";
+    let expected = format!("{c}{unknown}refused 2 at 2\n");
+    assert_eq!(listed("01 0C AB CD EF 01 02 03 04 05 06"), expected);
+    let start = format!("    0  {blank}start of the book  <- refused 1: ");
+    assert!(super::text(&[1; 32_769], Show::BytesAndWords).starts_with(&start));
+}
+
+/// The line that is marked, from its offset on.
 fn fault(bytes: &[u8]) -> String {
     let text = text(bytes);
-    let lines: Vec<&str> = text.lines().collect();
-    lines[lines.len() - 2].trim_start().to_string()
+    let marked: Vec<&str> = text.lines().filter(|line| line.contains("<-")).collect();
+    assert_eq!(marked.len(), 1);
+    marked[0].trim_start().to_string()
 }
 
 #[test]

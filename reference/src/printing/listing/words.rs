@@ -2,7 +2,8 @@
 
 use super::Numbers;
 use crate::model::book::record::Content;
-use crate::model::book::{DeclaredCell, Shape, Step, CELL_VALUE, CODE_VALUE, PLAIN_VALUE};
+use crate::model::book::{DeclaredCell, Shape, Step};
+use crate::printing::line::value;
 
 /// A record's name and number, and its fields.
 pub fn record(content: &Content, numbers: Numbers) -> String {
@@ -28,13 +29,7 @@ fn shape_fields(shape: Shape) -> String {
 }
 
 fn cell_fields(cell: DeclaredCell) -> String {
-    let number = cell.number;
-    let value = match cell.value_kind {
-        PLAIN_VALUE => format!("plain {number}"),
-        CELL_VALUE => format!("cell {number}"),
-        CODE_VALUE => format!("code {number}"),
-        kind => format!("value kind {kind} {number}"),
-    };
+    let value = value(cell.value_kind, cell.number);
     format!("shape {}, label {}, {value}", cell.shape, cell.label)
 }
 
