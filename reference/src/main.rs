@@ -10,6 +10,7 @@
 //! another, for each two files.
 //! `reference differ N` compares the two machines of the reference on N runs by chance.
 //! `reference check FILE ..` prints the verdict on the one book in each file.
+//! `reference told FILE ..` prints it with the words of a refusal.
 //! `reference list [--bytes] FILE ..` prints those books in words, with the bytes of each record.
 //! `reference event-lists` writes the file of test lists of events, laid out as one of test books.
 //! `reference events [--bytes] FILE ..` prints the list of events in each file in words.
@@ -29,8 +30,8 @@ use std::path::Path;
 use std::process::ExitCode;
 
 const USAGE: &str = "usage: reference books | read | check-books | verdict | runs | run-answers
-       | run BOOK EVENTS .. | differ N | check FILE .. | list [--bytes] FILE .. | event-lists
-       | events [--bytes] FILE .. | unpack FOLDER | unpack-runs FOLDER";
+       | run BOOK EVENTS .. | differ N | check FILE .. | told FILE .. | list [--bytes] FILE ..
+       | event-lists | events [--bytes] FILE .. | unpack FOLDER | unpack-runs FOLDER";
 
 fn main() -> ExitCode {
     let arguments: Vec<OsString> = std::env::args_os().skip(1).collect();
@@ -55,6 +56,7 @@ fn run(arguments: &[OsString]) -> io::Result<()> {
         (Some("run"), paths) => print_runs(paths),
         (Some("differ"), [count]) => print_difference(count),
         (Some("check"), paths) => print_each(paths, |book| format!("{}\n", check(book))),
+        (Some("told"), paths) => print_each(paths, listing::told::text),
         (Some("list"), rest) => print_listings(rest, listing::text),
         (Some("event-lists"), []) => write_books(&event_lists::lists()),
         (Some("events"), rest) => print_listings(rest, events::text),

@@ -5,6 +5,7 @@
 mod fault;
 #[cfg(test)]
 mod tests;
+pub mod told;
 mod words;
 
 use crate::model::book::record::{split, Content, Record};
@@ -39,10 +40,7 @@ impl Numbers {
 /// The listing of a book.
 pub fn text(bytes: &[u8], show: Show) -> String {
     let verdict = check(bytes);
-    let refusal = match verdict {
-        Verdict::Accepted { .. } => None,
-        Verdict::Refused { number, place } => Some(Refusal { number, place }),
-    };
+    let refusal = refusal_of(verdict);
     let mut numbers = Numbers::default();
     let mut text = String::new();
     for record in readable(bytes, refusal) {
@@ -58,6 +56,13 @@ pub fn text(bytes: &[u8], show: Show) -> String {
         text += &fault::without_record(bytes, refusal, show).unwrap_or_default();
     }
     text + &format!("{verdict}\n")
+}
+
+fn refusal_of(verdict: Verdict) -> Option<Refusal> {
+    match verdict {
+        Verdict::Accepted { .. } => None,
+        Verdict::Refused { number, place } => Some(Refusal { number, place }),
+    }
 }
 
 /// The records that are listed: of a book that is too long none, and else all that can be read.

@@ -11,15 +11,24 @@ pub fn mark(refusal: Refusal, reason: &str) -> String {
 
 /// The last line of a book of which no record is at fault, or one that cannot be read.
 pub fn without_record(bytes: &[u8], refusal: Refusal, show: Show) -> Option<String> {
-    let Refusal { number, place } = refusal;
-    let ((stands, reason), shown) = match (number, bytes.get(place)) {
-        (1, _) => (too_long(), &[][..]),
-        (2, Some(&kind)) => (unreadable(kind), &bytes[place..]),
-        (_, None) => (missing(place), &[][..]),
-        (_, Some(_)) => return None,
+    let (stands, reason) = stands_there(bytes, refusal)?;
+    let shown = match refusal.number {
+        2 => &bytes[refusal.place..],
+        _ => &[],
     };
     let words = stands + &mark(refusal, reason);
-    Some(line(show, place, shown, &words))
+    Some(line(show, refusal.place, shown, &words))
+}
+
+/// What stands at the place of such a refusal, and what is wrong with it.
+pub fn stands_there(bytes: &[u8], refusal: Refusal) -> Option<(String, &'static str)> {
+    let Refusal { number, place } = refusal;
+    match (number, bytes.get(place)) {
+        (1, _) => Some(too_long()),
+        (2, Some(&kind)) => Some(unreadable(kind)),
+        (_, None) => Some(missing(place)),
+        (_, Some(_)) => None,
+    }
 }
 
 /// Refusal 1: "The book is longer than 32,768 bytes."

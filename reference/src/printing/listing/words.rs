@@ -5,8 +5,33 @@ use crate::model::book::record::Content;
 use crate::model::book::{DeclaredCell, Shape, Step};
 use crate::printing::line::value;
 
-/// A record's name and number, and its fields.
+/// A record's name and number, and its fields, in columns.
 pub fn record(content: &Content, numbers: Numbers) -> String {
+    let (name, first, fields) = parts(content, numbers);
+    let name = match content {
+        Content::Step(_) => format!("  {name}"),
+        _ => name,
+    };
+    match first {
+        Some(first) => format!("{name:<9}  {first:<7} {fields}"),
+        None => format!("{name:<9}  {fields}"),
+    }
+}
+
+/// The same in a sentence; a step stands in a block, if there is one.
+pub fn told(content: &Content, numbers: Numbers) -> String {
+    let (mut name, first, fields) = parts(content, numbers);
+    if matches!(content, Content::Step(_)) && numbers.blocks > 0 {
+        name = format!("block {}, {name}", numbers.blocks - 1);
+    }
+    match first {
+        Some(first) => format!("{name}: {first} {fields}"),
+        None => format!("{name}: {fields}"),
+    }
+}
+
+/// The name and number of a record, the name of its kind of step, and its fields.
+fn parts(content: &Content, numbers: Numbers) -> (String, Option<&'static str>, String) {
     let (name, fields) = match *content {
         Content::C(c) => ("C".to_string(), c.to_string()),
         Content::Shape(shape) => (format!("shape {}", numbers.shapes), shape_fields(shape)),
@@ -15,9 +40,12 @@ pub fn record(content: &Content, numbers: Numbers) -> String {
             format!("block {}", numbers.blocks),
             format!("bound {bound}"),
         ),
-        Content::Step(step) => (format!("  step {}", numbers.steps), step_fields(step)),
+        Content::Step(step) => {
+            let (kind, operands) = step_fields(step);
+            return (format!("step {}", numbers.steps), Some(kind), operands);
+        }
     };
-    format!("{name:<9}  {fields}")
+    (name, None, fields)
 }
 
 fn shape_fields(shape: Shape) -> String {
@@ -33,8 +61,8 @@ fn cell_fields(cell: DeclaredCell) -> String {
     format!("shape {}, label {}, {value}", cell.shape, cell.label)
 }
 
-fn step_fields(step: Step) -> String {
-    let (name, operands) = match step {
+fn step_fields(step: Step) -> (&'static str, String) {
+    match step {
         Step::Put { r, number } => ("put", format!("r{r}, {number}")),
         Step::Name { r, cell } => ("name", format!("r{r}, cell {cell}")),
         Step::Code { r, block } => ("code", format!("r{r}, block {block}")),
@@ -46,6 +74,5 @@ fn step_fields(step: Step) -> String {
         Step::Lower { label } => ("lower", label.to_string()),
         Step::Start { block } => ("start", format!("block {block}")),
         Step::Exec { w } => ("exec", format!("r{w}")),
-    };
-    format!("{name:<7} {operands}")
+    }
 }
