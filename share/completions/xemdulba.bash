@@ -1,0 +1,24 @@
+# shellcheck shell=bash
+# Completion of xemdulba for bash. Where it has no word to offer, bash offers files.
+
+_xemdulba() {
+    local word=${COMP_WORDS[COMP_CWORD]} words='' before
+    COMPREPLY=()
+    if [ "$COMP_CWORD" -eq 1 ]; then
+        words='check run list events help --help -h --version -V'
+    else
+        for before in "${COMP_WORDS[@]:2:COMP_CWORD-2}"; do
+            [ "$before" != -- ] || return
+        done
+        case ${COMP_WORDS[1]}:$word in
+            check:-?* | run:-?*) words='--json --hex --raw --help' ;;
+            list:-?* | events:-?*) words='--json --hex --raw --bytes --help' ;;
+            help:-*) words='--json --help' ;;
+            help:*) words='check run list events help' ;;
+            --version:-* | -V:-* | --help:-* | -h:-*) words='--json' ;;
+        esac
+    fi
+    [ -z "$words" ] || mapfile -t COMPREPLY < <(compgen -W "$words" -- "$word")
+}
+
+complete -o bashdefault -o default -F _xemdulba xemdulba
