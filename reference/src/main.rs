@@ -14,15 +14,17 @@
 //! `reference list [--bytes] FILE ..` prints those books in words, with the bytes of each record.
 //! `reference event-lists` writes the file of test lists of events, laid out as one of test books.
 //! `reference events [--bytes] FILE ..` prints the list of events in each file in words.
-//! `reference unpack FOLDER` reads a file of test books on standard input and writes each to a
-//! file of its own: the first is FOLDER/0.
-//! `reference unpack-runs FOLDER` does so with a file of test runs: FOLDER/0.book, FOLDER/0.events.
+//! `reference unpack FOLDER [N ..]` reads a file of test books on standard input and writes each,
+//! or those of these numbers, to a file of its own: the first is FOLDER/0.
+//! `reference unpack-runs FOLDER [N ..]` does so with a file of test runs: FOLDER/0.book and
+//! FOLDER/0.events.
 
 use reference::cases::{check_books, differ, event_lists, file, generate, runs};
 use reference::check;
 use reference::model::machine;
 use reference::printing::line::Show;
 use reference::printing::{answer, events, listing, run_answer, run_words};
+use std::collections::HashSet;
 use std::ffi::OsString;
 use std::fmt::Display;
 use std::io::{self, Read, Write};
@@ -31,7 +33,7 @@ use std::process::ExitCode;
 
 const USAGE: &str = "usage: reference books | read | check-books | verdict | runs | run-answers
        | run BOOK EVENTS .. | differ N | check FILE .. | told FILE .. | list [--bytes] FILE ..
-       | event-lists | events [--bytes] FILE .. | unpack FOLDER | unpack-runs FOLDER";
+       | event-lists | events [--bytes] FILE .. | unpack FOLDER [N ..] | unpack-runs FOLDER [N ..]";
 
 fn main() -> ExitCode {
     let arguments: Vec<OsString> = std::env::args_os().skip(1).collect();
@@ -60,8 +62,8 @@ fn run(arguments: &[OsString]) -> io::Result<()> {
         (Some("list"), rest) => print_listings(rest, listing::text),
         (Some("event-lists"), []) => write_books(&event_lists::lists()),
         (Some("events"), rest) => print_listings(rest, events::text),
-        (Some("unpack"), [folder]) => unpack_books(folder.as_ref()),
-        (Some("unpack-runs"), [folder]) => unpack_runs(folder.as_ref()),
+        (Some("unpack"), [folder, some @ ..]) => unpack_books(folder.as_ref(), some),
+        (Some("unpack-runs"), [folder, some @ ..]) => unpack_runs(folder.as_ref(), some),
         _ => Err(usage()),
     }
 }
@@ -120,9 +122,13 @@ fn print_runs(paths: &[OsString]) -> io::Result<()> {
 /// The seed of the runs by chance.
 const SEED: u64 = 0x5EED_0040;
 
+fn number(word: &OsString) -> io::Result<usize> {
+    let number = word.to_str().and_then(|word| word.parse().ok());
+    number.ok_or_else(usage)
+}
+
 fn print_difference(count: &OsString) -> io::Result<()> {
-    let count = count.to_str().and_then(|word| word.parse().ok());
-    let count = count.ok_or_else(usage)?;
+    let count = number(count)?;
     match differ::differ(SEED, count, machine::run, machine::fast::run, |_| {}) {
         Some(difference) => Err(io::Error::other(format!("{difference:?}"))),
         None => {
@@ -153,19 +159,26 @@ fn print_listings(words: &[OsString], text: fn(&[u8], Show) -> String) -> io::Re
     }
 }
 
-fn unpack_books(folder: &Path) -> io::Result<()> {
+fn unpack_books(folder: &Path, some: &[OsString]) -> io::Result<()> {
     let bytes = standard_input()?;
-    for (index, book) in file::split(&bytes)?.into_iter().enumerate() {
+    for (index, book) in named(file::split(&bytes)?, some)? {
         std::fs::write(folder.join(index.to_string()), book)?;
     }
     Ok(())
 }
 
-fn unpack_runs(folder: &Path) -> io::Result<()> {
-    let runs = runs::file::split(&standard_input()?)?;
-    for (index, run) in runs.iter().enumerate() {
-        std::fs::write(folder.join(format!("{index}.book")), &run.book)?;
-        std::fs::write(folder.join(format!("{index}.events")), &run.events)?;
+fn unpack_runs(folder: &Path, some: &[OsString]) -> io::Result<()> {
+    for (index, run) in named(runs::file::split(&standard_input()?)?, some)? {
+        std::fs::write(folder.join(format!("{index}.book")), run.book)?;
+        std::fs::write(folder.join(format!("{index}.events")), run.events)?;
     }
     Ok(())
+}
+
+/// Those of the numbers that are named, or all if there are none, each with its number.
+fn named<T>(all: Vec<T>, some: &[OsString]) -> io::Result<Vec<(usize, T)>> {
+    let some: HashSet<usize> = some.iter().map(number).collect::<io::Result<_>>()?;
+    let found = all.into_iter().enumerate();
+    let wanted = |(index, _): &(usize, T)| some.is_empty() || some.contains(index);
+    Ok(found.filter(wanted).collect())
 }

@@ -58,16 +58,14 @@ fn cuts() -> Vec<Bytes> {
     lengths.map(|length| sound[..length].to_vec()).collect()
 }
 
-/// Lists about the limit: the longest, a fault in its last bytes, and one that is too long. And one
-/// of 1,001 events, with numbers of four digits.
+/// Lists about the limit: the longest, one that is cut, and two that are too long. And two of some
+/// 1,000 events, which have numbers of four digits, with a fault behind them.
 fn lengths() -> Vec<Bytes> {
     let full = steps(7, LONGEST_LIST / 2);
-    let before_last = &full[..LONGEST_LIST - 2];
     vec![
-        steps(0, 1_001),
+        [&full[..2_002], &start(0, 0)[..2]].concat(),
+        [&full[..2_000], &[86, 0]].concat(),
         full.clone(),
-        [before_last, &start(0, 0)[..2]].concat(),
-        [before_last, &[86, 0]].concat(),
         full[..LONGEST_LIST - 1].to_vec(),
         [&full[..], &[STEP]].concat(),
         [&full[..], &full].concat(),
