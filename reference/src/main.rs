@@ -1,11 +1,10 @@
 //! The command line of the reference implementation.
 //!
 //! `reference books` writes the file of test books for reading to standard output.
-//! `reference read` reads such a file on standard input and prints one line per book.
 //! `reference check-books` writes the file of test books for checking.
 //! `reference verdict` reads such a file on standard input and prints one verdict per book.
 //! `reference runs` writes the file of test runs.
-//! `reference run-answers` reads such a file on standard input and prints one line per run.
+//! `reference outcomes` reads such a file on standard input and prints one outcome per run.
 //! `reference run BOOK EVENTS ..` prints in words what the events of a file do on the book in
 //! another, for each two files.
 //! `reference differ N` compares the two machines of the reference on N runs by chance.
@@ -23,17 +22,17 @@ use reference::cases::{check_books, differ, event_lists, file, generate, runs};
 use reference::check;
 use reference::model::machine;
 use reference::printing::line::Show;
-use reference::printing::{answer, events, listing, run_answer, run_words};
+use reference::printing::{events, listing, run_words};
 use std::collections::HashSet;
 use std::ffi::OsString;
-use std::fmt::Display;
 use std::io::{self, Read, Write};
 use std::path::Path;
 use std::process::ExitCode;
 
-const USAGE: &str = "usage: reference books | read | check-books | verdict | runs | run-answers
-       | run BOOK EVENTS .. | differ N | check FILE .. | told FILE .. | list [--bytes] FILE ..
-       | event-lists | events [--bytes] FILE .. | unpack FOLDER [N ..] | unpack-runs FOLDER [N ..]";
+const USAGE: &str =
+    "usage: reference books | check-books | verdict | runs | outcomes | run BOOK EVENTS ..
+       | differ N | check FILE .. | told FILE .. | list [--bytes] FILE .. | event-lists
+       | events [--bytes] FILE .. | unpack FOLDER [N ..] | unpack-runs FOLDER [N ..]";
 
 fn main() -> ExitCode {
     let arguments: Vec<OsString> = std::env::args_os().skip(1).collect();
@@ -50,11 +49,10 @@ fn run(arguments: &[OsString]) -> io::Result<()> {
     let (word, rest) = arguments.split_first().ok_or_else(usage)?;
     match (word.to_str(), rest) {
         (Some("books"), []) => write_books(&generate::books()),
-        (Some("read"), []) => print_lines(reading),
         (Some("check-books"), []) => write_books(&check_books::books()),
-        (Some("verdict"), []) => print_lines(|_, book| check(book)),
+        (Some("verdict"), []) => print_verdicts(),
         (Some("runs"), []) => io::stdout().write_all(&runs::file::join(&runs::all())),
-        (Some("run-answers"), []) => print_answers(),
+        (Some("outcomes"), []) => print_outcomes(),
         (Some("run"), paths) => print_runs(paths),
         (Some("differ"), [count]) => print_difference(count),
         (Some("check"), paths) => print_each(paths, |book| format!("{}\n", check(book))),
@@ -82,26 +80,23 @@ fn standard_input() -> io::Result<Vec<u8>> {
     Ok(bytes)
 }
 
-/// One line for each book in the file on standard input.
-fn print_lines<T: Display>(line: impl Fn(usize, &[u8]) -> T) -> io::Result<()> {
+/// One verdict for each book in the file on standard input.
+fn print_verdicts() -> io::Result<()> {
     let bytes = standard_input()?;
     let mut out = io::BufWriter::new(io::stdout().lock());
-    for (index, book) in file::split(&bytes)?.into_iter().enumerate() {
-        writeln!(out, "{}", line(index, book))?;
+    for book in file::split(&bytes)? {
+        writeln!(out, "{}", check(book))?;
     }
     out.flush()
 }
 
-fn reading(index: usize, book: &[u8]) -> String {
-    answer::line(generate::asked_block(index), book)
-}
-
-/// One line for each run in the file on standard input.
-fn print_answers() -> io::Result<()> {
+/// One outcome for each run in the file on standard input.
+fn print_outcomes() -> io::Result<()> {
     let mut out = io::BufWriter::new(io::stdout().lock());
     for run in runs::file::split(&standard_input()?)? {
         let (outcome, lent) = runs::outcome(machine::run, &run);
-        writeln!(out, "{}", run_answer::line(&run.events, outcome, &lent))?;
+        let words = run_words::text(outcome, &lent);
+        writeln!(out, "{}", words.lines().next().unwrap_or_default())?;
     }
     out.flush()
 }

@@ -1,9 +1,6 @@
-//! What prints answers: lines for comparing, and words for reading.
+//! What prints answers in words.
 
-pub mod answer;
-pub mod checksum;
 pub mod events;
 pub mod line;
 pub mod listing;
-pub mod run_answer;
 pub mod run_words;

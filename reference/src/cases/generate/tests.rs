@@ -1,6 +1,7 @@
 //! What the file of test books must hold.
 
 use super::*;
+use crate::model::book;
 use std::collections::BTreeMap;
 
 /// How often each refusal number is answered, 0 standing for none.
@@ -42,10 +43,8 @@ fn the_file_is_rich_enough() {
 #[test]
 fn every_answer_of_the_block_call_occurs() {
     let books = books();
-    let calls = books.iter().enumerate();
-    let answers: Vec<_> = calls
-        .map(|(index, book)| book::stretch(book, asked_block(index)))
-        .collect();
+    let asked = |book| [0, 1, 63].map(|block| book::stretch(book, block));
+    let answers: Vec<_> = books.iter().flat_map(|book| asked(book)).collect();
     let tally = tally(answers.iter().map(|answer| match answer {
         Ok(_) => 0,
         Err(refusal) => refusal.number,
@@ -58,17 +57,12 @@ fn every_answer_of_the_block_call_occurs() {
 }
 
 #[test]
-fn blocks_are_asked_for_in_turn() {
-    assert_eq!([0, 65, 66].map(asked_block), [0, 65, 0]);
-}
-
-#[test]
-fn each_existing_block_number_is_asked_for() {
+fn the_fewest_and_the_most_blocks_occur() {
     let books = books();
-    let calls = books.iter().enumerate();
-    let found = calls.filter(|&(index, book)| book::stretch(book, asked_block(index)).is_ok());
-    let numbers = found.map(|(index, _)| asked_block(index) as u8);
-    assert_eq!(tally(numbers).len(), 64);
+    let readable = books.iter().filter_map(|book| book::read(book).ok());
+    let numbers = readable.map(|book| book.blocks.len() as u8);
+    let tally = tally(numbers);
+    assert!(tally.contains_key(&1) && tally.contains_key(&64));
 }
 
 #[test]
