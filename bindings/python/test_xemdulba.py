@@ -3,13 +3,15 @@
 import array
 import ctypes
 import mmap
+import os
 import pickle
 import re
 import unittest
 from pathlib import Path
+from unittest import mock
 
 import xemdulba
-from xemdulba import Answer, Cell, Fields, Kind, Refusal, Value
+from xemdulba import Answer, Cell, Fields, Kind, Refusal, Value, _library
 
 SOURCES = Path(__file__).resolve().parents[2]
 HEADER = (SOURCES / "include" / "xemdulba.h").read_text(encoding="utf-8")
@@ -282,6 +284,12 @@ class Types(unittest.TestCase):
             self.assertRaises(TypeError, xemdulba.stretch, BOOK_A, block)
         for block in (-1, 2**32):
             self.assertRaises(ValueError, xemdulba.stretch, BOOK_A, block)
+
+
+class Places(unittest.TestCase):
+    def test_a_package_near_the_root_has_no_source_folder(self):
+        with mock.patch.dict(os.environ, XEMDULBA_LIBRARY=""), mock.patch.object(_library, "__file__", "/site/xemdulba/_library.py"):
+            self.assertEqual(_library._path(), "/target/bindings/libxemdulba.so")
 
 
 if __name__ == "__main__":

@@ -64,9 +64,9 @@ def _path() -> str:
     named = os.environ.get("XEMDULBA_LIBRARY")
     if named:
         return named
-    carried = Path(__file__).resolve().parent / NAME
-    built = carried.parents[3] / "target" / "bindings" / NAME
-    return str(carried if carried.is_file() else built)
+    folder = Path(__file__).resolve().parent
+    carried, built = folder / NAME, folder / "../../../target/bindings" / NAME
+    return str(carried if carried.is_file() else built.resolve())
 
 
 def _load(path: str) -> ctypes.CDLL:
