@@ -88,16 +88,12 @@ fn parse_verb(verb: Verb, rest: &[OsString]) -> Result<Request, String> {
         (false, true) => Content::Bytes,
         (false, false) => Content::Unsaid,
     };
-    let bytes = has(Flag::Bytes);
-    request(
-        verb,
-        files,
-        Options {
-            json,
-            bytes,
-            content,
-        },
-    )
+    let options = Options {
+        json,
+        bytes: has(Flag::Bytes),
+        content,
+    };
+    request(verb, files, options)
 }
 
 /// The options and the other words. Behind `--` no word is an option.

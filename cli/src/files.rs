@@ -116,7 +116,7 @@ fn given(bytes: Vec<u8>, content: Content) -> Result<Given, Failure> {
     match content {
         Content::Bytes => Ok(Given { bytes, note: None }),
         Content::Text => {
-            is_short(&bytes)?;
+            expect_whole(&bytes)?;
             let bytes = text::parse(&bytes).map_err(Failure::NoText)?;
             Ok(Given { bytes, note: None })
         }
@@ -127,7 +127,7 @@ fn given(bytes: Vec<u8>, content: Content) -> Result<Given, Failure> {
 fn given_by_look(bytes: Vec<u8>) -> Result<Given, Failure> {
     let look = text::look(&bytes);
     if matches!(look, Look::Text(_) | Look::OddText) {
-        is_short(&bytes)?;
+        expect_whole(&bytes)?;
     }
     let (bytes, note) = match look {
         Look::Text(bytes) => (bytes, None),
@@ -142,11 +142,11 @@ fn given_by_look(bytes: Vec<u8>) -> Result<Given, Failure> {
 }
 
 /// Text that may be cut is no text.
-fn is_short(text: &[u8]) -> Result<(), Failure> {
-    match text.len() < MOST {
-        true => Ok(()),
-        false => Err(Failure::Unread("text of 4 MiB or more".to_string())),
+fn expect_whole(text: &[u8]) -> Result<(), Failure> {
+    if text.len() < MOST {
+        return Ok(());
     }
+    Err(Failure::Unread("text of 4 MiB or more".to_string()))
 }
 
 #[cfg(test)]

@@ -19,7 +19,7 @@ pub fn events(file: &OsStr, options: Options) -> Answer {
 }
 
 /// The lines of a file in a layout, and the verdict on it.
-fn answer<C: Counted + Display>(
+fn answer<C: Counted>(
     file: &OsStr,
     options: Options,
     layout: &'static Layout,

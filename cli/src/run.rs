@@ -17,11 +17,11 @@ pub fn answer(book_file: &OsStr, list_file: &OsStr, options: Options) -> Answer 
     let Some(list) = answer.read(list_file, options.content) else {
         return answer;
     };
-    let book = Source {
+    let book = Input {
         file: book_file,
         bytes: &book,
     };
-    let list = Source {
+    let list = Input {
         file: list_file,
         bytes: &list,
     };
@@ -31,19 +31,19 @@ pub fn answer(book_file: &OsStr, list_file: &OsStr, options: Options) -> Answer 
 
 /// A file, and what it holds.
 #[derive(Clone, Copy)]
-struct Source<'f> {
+struct Input<'f> {
     file: &'f OsStr,
     bytes: &'f [u8],
 }
 
-fn tell(answer: &mut Answer, book: Source, list: Source, json: bool) {
+fn tell(answer: &mut Answer, book: Input, list: Input, json: bool) {
     match xemdulba::run(book.bytes, list.bytes) {
         Ok(run) => {
-            let unchecked = check::check(book.bytes).err();
+            let check_refusal = check::check(book.bytes).err();
             if json {
-                tell_objects(answer, &run, unchecked);
+                tell_objects(answer, &run, check_refusal);
             } else {
-                tell_run(answer, &run, book.file, unchecked);
+                tell_run(answer, &run, book.file, check_refusal);
             }
         }
         Err(refusal) => {
@@ -70,7 +70,7 @@ fn tell_refusal(answer: &mut Answer, file: &OsStr, told: &Told, json: bool) {
     }
 }
 
-/// Names and their named, which stand in a line of words as in an object.
+/// Names and numbers, which stand in a line of words as they do in an object.
 type Named = Vec<(&'static str, usize)>;
 
 fn counts(run: &Run) -> Named {
@@ -119,8 +119,8 @@ fn value_words(value: &Value) -> String {
 }
 
 /// The run in words, and on standard error that check refuses the book, if it does.
-fn tell_run(answer: &mut Answer, run: &Run, book_file: &OsStr, unchecked: Option<Told>) {
-    if let Some(told) = unchecked {
+fn tell_run(answer: &mut Answer, run: &Run, book_file: &OsStr, check_refusal: Option<Told>) {
+    if let Some(told) = check_refusal {
         answer.note_on(book_file, format!("check refuses this book: {told}"));
     }
     answer.tell_line(format!("ran {}", words(counts(run))));
@@ -152,10 +152,10 @@ fn value_object(value: &Value) -> Json {
 }
 
 /// The run as objects; the first says whether check refuses the book.
-fn tell_objects(answer: &mut Answer, run: &Run, unchecked: Option<Told>) {
+fn tell_objects(answer: &mut Answer, run: &Run, check_refusal: Option<Told>) {
     let mut outcome = vec![("outcome", "ran".into())];
     outcome.extend(pairs(counts(run)));
-    outcome.extend(unchecked.map(|told| ("check", Json::Object(told.pairs()))));
+    outcome.extend(check_refusal.map(|told| ("check", Json::Object(told.pairs()))));
     answer.tell_object(outcome);
     let answers = answers(run).map(Json::from).collect();
     answer.tell_object(vec![("answers", Json::List(answers))]);

@@ -46,10 +46,10 @@ impl fmt::Display for Told {
 }
 
 /// A verdict: what was counted, or a refusal.
-pub type Verdict<Counted> = Result<Counted, Told>;
+pub type Verdict<C> = Result<C, Told>;
 
-/// What was counted, by name.
-pub trait Counted {
+/// What was counted, in words and by name.
+pub trait Counted: fmt::Display {
     fn pairs(&self) -> Pairs;
 }
 
@@ -65,7 +65,7 @@ impl Counted for Counts {
 }
 
 /// The line of a verdict, without the words of a refusal.
-pub fn line<C: fmt::Display>(verdict: &Verdict<C>) -> String {
+pub fn line<C: Counted>(verdict: &Verdict<C>) -> String {
     match verdict {
         Ok(counts) => counts.to_string(),
         Err(told) => told.fault.refusal.to_string(),

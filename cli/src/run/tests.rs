@@ -8,11 +8,11 @@ fn told(book: &str, list: &str, json: bool) -> (String, String, Status) {
     let bytes = |hex: &str| text::parse(hex.as_bytes()).unwrap();
     let mut answer = Answer::new();
     let (book, list) = (bytes(book), bytes(list));
-    let book = Source {
+    let book = Input {
         file: OsStr::new("book"),
         bytes: &book,
     };
-    let list = Source {
+    let list = Input {
         file: OsStr::new("list"),
         bytes: &list,
     };
