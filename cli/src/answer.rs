@@ -1,6 +1,6 @@
 //! What a call of the command gives.
 
-use crate::files::{self, Content};
+use crate::files::{self, Content, Failure};
 use crate::json::{Json, Pairs};
 use std::ffi::OsStr;
 use std::fmt::Display;
@@ -76,18 +76,18 @@ impl Answer {
     }
 
     /// The bytes of a file, if it can be read; says what there is to say of it.
-    pub fn read(&mut self, file: &OsStr, content: Content) -> Option<Vec<u8>> {
+    pub fn read(&mut self, file: &OsStr, content: Content) -> Result<Vec<u8>, Failure> {
         match files::read(file, content) {
             Ok(given) => {
                 if let Some(note) = given.note {
                     self.note_on(file, note);
                 }
-                Some(given.bytes)
+                Ok(given.bytes)
             }
             Err(failure) => {
                 self.note(failure.message(file));
                 self.end_with(Status::NoAnswer);
-                None
+                Err(failure)
             }
         }
     }

@@ -3,10 +3,9 @@
 use crate::answer::{Answer, Status};
 use crate::arguments::Options;
 use crate::files::{self, Content, Failure};
-use crate::json::{Json, Pairs};
+use crate::json::Pairs;
 use crate::layout::BOOK;
 use crate::parallel;
-use crate::text::Wrong;
 use crate::verdict::{self, Told, Verdict};
 use std::ffi::{OsStr, OsString};
 use xemdulba::Counts;
@@ -114,20 +113,10 @@ fn tell_among(answer: &mut Answer, checked: &Checked) {
 }
 
 fn object(checked: &Checked) -> Pairs {
-    let failure = match &checked.verdict {
-        Ok(verdict) => return verdict::pairs(checked.file, verdict),
-        Err(failure) => failure,
-    };
-    let mut pairs = vec![("file", checked.file.into()), ("verdict", Json::Null)];
-    match failure {
-        Failure::Unread(reason) => pairs.push(("error", reason.as_str().into())),
-        Failure::NoText(Wrong { line, column, what }) => pairs.extend([
-            ("error", what.as_str().into()),
-            ("line", (*line).into()),
-            ("column", (*column).into()),
-        ]),
+    match &checked.verdict {
+        Ok(verdict) => verdict::pairs(checked.file, verdict),
+        Err(failure) => verdict::no_pairs(checked.file, failure),
     }
-    pairs
 }
 
 fn tell_counts(answer: &mut Answer, checked: &[Checked], json: bool) {

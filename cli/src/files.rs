@@ -1,6 +1,7 @@
 //! Reading a file: bytes, or hexadecimal text.
 
 use crate::descriptors;
+use crate::json::Pairs;
 use crate::text::{self, Look, Wrong};
 use std::ffi::OsStr;
 use std::fs::File;
@@ -38,6 +39,18 @@ pub enum Failure {
 }
 
 impl Failure {
+    /// Why, as the keys of an object.
+    pub fn pairs(&self) -> Pairs {
+        match self {
+            Failure::Unread(reason) => vec![("error", reason.as_str().into())],
+            Failure::NoText(Wrong { line, column, what }) => vec![
+                ("error", what.as_str().into()),
+                ("line", (*line).into()),
+                ("column", (*column).into()),
+            ],
+        }
+    }
+
     /// Why, behind the name of the file: `FILE: reason` or `FILE:LINE:COLUMN: reason`.
     pub fn message(&self, name: &OsStr) -> Vec<u8> {
         let why = match self {
@@ -61,10 +74,15 @@ pub fn shown(name: &OsStr) -> Vec<u8> {
     printable(name)
 }
 
-/// The bytes of a word, but for control characters, which could end the line.
+/// The bytes of a word, but for control characters, which could end the line or move the cursor.
 pub fn printable(word: &OsStr) -> Vec<u8> {
-    let plain = |byte: &u8| if byte.is_ascii_control() { b'?' } else { *byte };
-    word.as_bytes().iter().map(plain).collect()
+    let mut plain = Vec::new();
+    for chunk in word.as_bytes().utf8_chunks() {
+        let text = chunk.valid().replace(char::is_control, "?");
+        plain.extend_from_slice(text.as_bytes());
+        plain.extend_from_slice(chunk.invalid());
+    }
+    plain
 }
 
 /// Reads a file, once, so that it may be a pipe.
@@ -104,7 +122,8 @@ fn unread(error: io::Error) -> Failure {
 }
 
 fn content_of(name: &OsStr, content: Content) -> Content {
-    let named_text = name.as_bytes().ends_with(b".hex");
+    let end = name.as_bytes().last_chunk();
+    let named_text = end.is_some_and(|end: &[u8; 4]| end.eq_ignore_ascii_case(b".hex"));
     match content {
         Content::Unsaid if named_text => Content::Text,
         _ => content,
@@ -126,11 +145,12 @@ fn given(bytes: Vec<u8>, content: Content) -> Result<Given, Failure> {
 
 fn given_by_look(bytes: Vec<u8>) -> Result<Given, Failure> {
     let look = text::look(&bytes);
-    if matches!(look, Look::Text(_) | Look::OddText) {
+    if matches!(look, Look::Text(_) | Look::Unpaired(_) | Look::OddText) {
         expect_whole(&bytes)?;
     }
     let (bytes, note) = match look {
         Look::Text(bytes) => (bytes, None),
+        Look::Unpaired(bytes) => (bytes, Some("digits that stand apart were paired")),
         Look::OddText => (bytes, Some("an odd number of digits, so taken as bytes")),
         Look::OtherText => {
             let note = "text, but not of hexadecimal digits alone, so taken as bytes";
@@ -158,6 +178,8 @@ mod tests {
         let content = |name: &str, content| content_of(OsStr::new(name), content);
         assert_eq!(content("a.book", Content::Unsaid), Content::Unsaid);
         assert_eq!(content("a.hex", Content::Unsaid), Content::Text);
+        assert_eq!(content("A.HEX", Content::Unsaid), Content::Text);
+        assert_eq!(content("hex", Content::Unsaid), Content::Unsaid);
         assert_eq!(content("a.hex", Content::Bytes), Content::Bytes);
         assert_eq!(content("-", Content::Text), Content::Text);
     }
@@ -204,6 +226,7 @@ mod tests {
         assert_eq!(shown(OsStr::new("a b")), b"a b");
         assert_eq!(shown(OsStr::from_bytes(b"\xFF")), b"\xFF");
         assert_eq!(shown(OsStr::new("a\nb")), b"a?b");
+        assert_eq!(shown(OsStr::new("é\u{9b}31m")), "é?31m".as_bytes());
         assert_eq!(shown(OsStr::new("")), b"''");
     }
 }

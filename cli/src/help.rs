@@ -11,7 +11,7 @@ usage: xemdulba check FILE..       the verdict on each book
        xemdulba list BOOK          the records in words, and the verdict
        xemdulba events LIST        the events in words
        xemdulba help [VERB]        more, in all or of a verb
-       xemdulba --version          the version, and the kit of the proofs
+       xemdulba --version          the version, and the kit of the proofs (-V)
 ";
 
 const OVERVIEW: &str = "
@@ -20,12 +20,12 @@ Options, anywhere behind the verb:
   --bytes    the bytes of each record too (list, events)
   --hex      every file is hexadecimal text
   --raw      every file is bytes
-  --help     help on the verb
+  --help     help on the verb (-h)
   --         what follows are files
 
 A file holds bytes, or hexadecimal text: two digits for each byte, white space
 and commas. A file named *.hex, or any with --hex, is text, and may have
-comments behind #, 0x before bytes, and : and ; too. - is standard input.
+comments behind #, 0x before digits, and : and ; too. - is standard input.
 ";
 
 const STATUS: &str = "

@@ -26,8 +26,14 @@ fn answer<C: Counted>(
     ask: fn(&[u8]) -> Verdict<C>,
 ) -> Answer {
     let mut answer = Answer::new();
-    let Some(bytes) = answer.read(file, options.content) else {
-        return answer;
+    let bytes = match answer.read(file, options.content) {
+        Ok(bytes) => bytes,
+        Err(failure) => {
+            if options.json {
+                answer.tell_object(verdict::no_pairs(file, &failure));
+            }
+            return answer;
+        }
     };
     let verdict = ask(&bytes);
     let fault = verdict.as_ref().err().map(|told| told.fault);

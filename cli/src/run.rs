@@ -11,10 +11,10 @@ use xemdulba::{Cell, Job, Run, Value};
 
 pub fn answer(book_file: &OsStr, list_file: &OsStr, options: Options) -> Answer {
     let mut answer = Answer::new();
-    let Some(book) = answer.read(book_file, options.content) else {
+    let Some(book) = read(&mut answer, book_file, options) else {
         return answer;
     };
-    let Some(list) = answer.read(list_file, options.content) else {
+    let Some(list) = read(&mut answer, list_file, options) else {
         return answer;
     };
     let book = Input {
@@ -27,6 +27,21 @@ pub fn answer(book_file: &OsStr, list_file: &OsStr, options: Options) -> Answer 
     };
     tell(&mut answer, book, list, options.json);
     answer
+}
+
+/// The bytes of a file; where there are none the outcome is none.
+fn read(answer: &mut Answer, file: &OsStr, options: Options) -> Option<Vec<u8>> {
+    match answer.read(file, options.content) {
+        Ok(bytes) => Some(bytes),
+        Err(failure) => {
+            if options.json {
+                let mut pairs = vec![("outcome", Json::Null), ("file", file.into())];
+                pairs.extend(failure.pairs());
+                answer.tell_object(pairs);
+            }
+            None
+        }
+    }
 }
 
 /// A file, and what it holds.

@@ -13,6 +13,8 @@ pub struct Wrong {
 pub enum Look {
     /// Digits, white space and commas alone, and the bytes that they are.
     Text(Vec<u8>),
+    /// So too, but the two digits of a byte stand apart.
+    Unpaired(Vec<u8>),
     /// So too, but with an odd number of digits.
     OddText,
     /// Other text.
@@ -35,10 +37,18 @@ pub fn look(file: &[u8]) -> Look {
     }
     let digits = file.iter().copied().filter(u8::is_ascii_hexdigit);
     let digits: Vec<u8> = digits.collect();
+    let bytes = bytes_of(&digits).collect();
     match digits.len() % 2 {
-        0 => Look::Text(bytes_of(&digits).collect()),
+        0 if has_odd_run(file) => Look::Unpaired(bytes),
+        0 => Look::Text(bytes),
         _ => Look::OddText,
     }
+}
+
+/// An unbroken run of digits has an odd number of them.
+fn has_odd_run(text: &[u8]) -> bool {
+    let mut runs = text.split(|byte| !byte.is_ascii_hexdigit());
+    runs.any(|run| run.len() % 2 == 1)
 }
 
 /// The bytes of text with comments, `0x` and separators: digits in either case, an even number of
@@ -104,7 +114,12 @@ fn wrong_character(rest: &[u8]) -> String {
     let chunk = front.utf8_chunks().next();
     let letter = chunk.and_then(|chunk| chunk.valid().chars().next());
     match letter {
-        Some(letter) if !letter.is_control() => format!("'{letter}' is no hexadecimal digit"),
+        Some(letter) if letter.is_ascii_graphic() || letter.is_alphanumeric() => {
+            format!("'{letter}' is no hexadecimal digit")
+        }
+        Some(letter) if !letter.is_control() => {
+            format!("U+{:04X} is no hexadecimal digit", u32::from(letter))
+        }
         _ => format!("byte {:02X} is no text", rest[0]),
     }
 }
@@ -127,11 +142,11 @@ mod tests {
     #[test]
     fn looks() {
         assert_eq!(
-            look(b" 01,0C\r\n3\x0B0\tfF"),
-            Look::Text(vec![1, 12, 48, 255])
+            look(b" 01,0C\r\n30\x0B0c\tfF"),
+            Look::Text(vec![1, 12, 48, 12, 255])
         );
         assert_eq!(look(b""), Look::Text(vec![]));
-        assert_eq!(look(b"0 1 0 3"), Look::Text(vec![1, 3]));
+        assert_eq!(look(b"0 1 03"), Look::Unpaired(vec![1, 3]));
         assert_eq!(look(b"01 3"), Look::OddText);
         assert_eq!(look(b"0x01"), Look::OtherText);
         assert_eq!(look("01 # é".as_bytes()), Look::OtherText);
@@ -162,7 +177,8 @@ mod tests {
         assert_eq!(wrong(b"01 0x 03"), "1:4: no digit behind 0x");
         assert_eq!(wrong(b"010x03"), "1:4: 'x' is no hexadecimal digit");
         assert_eq!(wrong("01 é".as_bytes()), "1:4: 'é' is no hexadecimal digit");
-        assert_eq!(wrong("\u{feff}\u{feff}".as_bytes())[..5], *"1:1: ");
+        let mark = "\u{feff}\u{feff}".as_bytes();
+        assert_eq!(wrong(mark), "1:1: U+FEFF is no hexadecimal digit");
         assert_eq!(wrong(b"\x01\x03"), "1:1: byte 01 is no text");
         assert_eq!(wrong(b"01\n\xFF"), "2:1: byte FF is no text");
         assert_eq!(wrong(b"-"), "1:1: '-' is no hexadecimal digit");

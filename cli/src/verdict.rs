@@ -2,7 +2,8 @@
 
 use crate::answer::Status;
 use crate::fault::Fault;
-use crate::json::Pairs;
+use crate::files::Failure;
+use crate::json::{Json, Pairs};
 use crate::layout::Layout;
 use crate::lines::lines;
 use std::ffi::OsStr;
@@ -80,6 +81,13 @@ pub fn pairs<C: Counted>(file: &OsStr, verdict: &Verdict<C>) -> Pairs {
     };
     let mut pairs = vec![("file", file.into()), ("verdict", word.into())];
     pairs.extend(more);
+    pairs
+}
+
+/// No verdict, and why, as the keys of an object.
+pub fn no_pairs(file: &OsStr, failure: &Failure) -> Pairs {
+    let mut pairs = vec![("file", file.into()), ("verdict", Json::Null)];
+    pairs.extend(failure.pairs());
     pairs
 }
 

@@ -11,10 +11,10 @@ _xemdulba() {
             [ "$before" != -- ] || return
         done
         case ${COMP_WORDS[1]}:$word in
-            check:-?* | run:-?*) words='--json --hex --raw --help' ;;
-            list:-?* | events:-?*) words='--json --hex --raw --bytes --help' ;;
+            check:-* | run:-*) words='--json --hex --raw --help' ;;
+            list:-* | events:-*) words='--json --hex --raw --bytes --help' ;;
             help:-*) words='--json --help' ;;
-            help:*) words='check run list events help' ;;
+            help:*) [ "$COMP_CWORD" -gt 2 ] || words='check run list events help' ;;
             --version:-* | -V:-* | --help:-* | -h:-*) words='--json' ;;
         esac
     fi

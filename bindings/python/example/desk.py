@@ -48,6 +48,12 @@ def desk(book: bytes, events: bytes) -> tuple[int, list[str]]:
     return 0, lines
 
 
+def read(path: str) -> bytes:
+    """The file's first bytes: so many are refused, whatever follows them."""
+    with open(path, "rb") as file:
+        return file.read(65_537)
+
+
 def write(lines: list[str]) -> None:
     """Writes to standard output. print() says nothing where that is closed, and tries again at the end what has failed."""
     try:
@@ -69,7 +75,7 @@ def main(arguments: list[str]) -> int:
     if len(arguments) != 2:
         return complain("usage: desk BOOK EVENTS")
     try:
-        book, events = (Path(argument).read_bytes() for argument in arguments)
+        book, events = (read(argument) for argument in arguments)
         status, lines = desk(book, events)
         write(lines)
     except BrokenPipeError:

@@ -4,7 +4,7 @@
 use std::ffi::OsString;
 use std::fmt::{self, Write as _};
 use std::fs::File;
-use std::io::{self, ErrorKind, Write as _};
+use std::io::{self, ErrorKind, Read as _, Write as _};
 use std::os::fd::AsFd;
 use std::path::Path;
 use std::process::ExitCode;
@@ -92,9 +92,15 @@ mod before_main {
     }
 }
 
+/// So many bytes are refused as a book and as a list of events, whatever follows them.
+const MOST: u64 = 65_537;
+
 fn read(path: &OsString) -> io::Result<Vec<u8>> {
     let named = |error| io::Error::other(format!("{}: {error}", Path::new(path).display()));
-    std::fs::read(path).map_err(named)
+    let mut bytes = Vec::new();
+    let file = File::open(path).map_err(named)?;
+    file.take(MOST).read_to_end(&mut bytes).map_err(named)?;
+    Ok(bytes)
 }
 
 /// The verdict, and what the run gives.

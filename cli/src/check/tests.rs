@@ -1,6 +1,7 @@
 //! Verdicts on one file and on several.
 
 use super::*;
+use crate::text::Wrong;
 
 fn checked<'f>(file: &'f str, book: &[u8]) -> Checked<'f> {
     Checked {
