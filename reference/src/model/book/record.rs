@@ -38,6 +38,8 @@ pub fn split(bytes: &[u8]) -> Result<Vec<Record>, Refusal> {
 }
 
 /// The record at the head of `rest`, with its size; none if its kind is unknown or its body cut.
+// Inline, since the bench times `split`: others call it too, and a call for each record takes longer.
+#[inline]
 pub fn decode(place: usize, rest: &[u8]) -> Option<(Content, usize)> {
     match *rest {
         [1, c, ..] => Some((Content::C(c), 2)),
