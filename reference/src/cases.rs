@@ -1,4 +1,4 @@
-//! What makes test books and runs, by rule and by chance, and the files of them.
+//! What makes test books, runs and tables, by rule and by chance, and the files of books and runs.
 
 pub mod check_books;
 pub mod differ;
@@ -7,3 +7,4 @@ pub mod file;
 pub mod generate;
 pub mod large;
 pub mod runs;
+pub mod writes;

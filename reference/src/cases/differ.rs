@@ -1,8 +1,10 @@
-//! Runs and books by chance, for comparing two implementations.
+//! Runs, books and tables by chance, for comparing two implementations.
 
 mod books;
+mod tables;
 
 pub use books::books;
+pub use tables::tables;
 
 use crate::cases::generate::dice::Dice;
 use crate::cases::generate::Bytes;

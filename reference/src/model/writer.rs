@@ -31,7 +31,7 @@ pub struct Tables<'t> {
 }
 
 /// The same, owned.
-#[derive(Clone, Debug, Default, PartialEq, Eq)]
+#[derive(Clone, Debug, Default, PartialEq, Eq, Hash)]
 pub struct Packed {
     pub c: u32,
     pub shapes: Vec<u8>,
