@@ -5,7 +5,7 @@
 --     group-below, steps-below      the records of a group, the steps of a block
 --     steps-short                   how many steps the blocks have
 --     stage, none-refused           the place of a refusal by one stage, where that of the stages after it is told
---     refused-short                 the place of a refusal by 1 to 6
+--     order-placed, .., refused-short     the place of each stage; of a refusal by 1 to 6
 --     found-place, found-short      the place of a refusal by 1 to 6 or 12; a block's stretch
 -- Assumes nothing.
 use mathlib.Core.Path.{_≡_, refl, ap, _∙_}
@@ -162,7 +162,7 @@ module _ (s : List ℕ) where
   unfolding cutFault
   cut-placed = sweep-clean _ _ (length s) (records-below s 0) tt
 
-  order-placed : PlacedIn (length s) (orderFault s)
+  pub order-placed : PlacedIn (length s) (orderFault s)
   unfolding orderFault misplaced
   order-placed = sweep-placed _ _ _ (length s) (λ p. ends (eqb p 4)) (records-below s 0) 0
     where
@@ -170,15 +170,15 @@ module _ (s : List ℕ) where
       ends true = nowhere-placed (length s)
       ends false = at-placed (length s) (length s) (omega arith)
 
-  count-placed : PlacedIn (length s) (countFault s)
+  pub count-placed : PlacedIn (length s) (countFault s)
   unfolding countFault beyond
   count-placed = sweep-clean _ _ (length s) (records-below s 0) _
 
-  range-placed : PlacedIn (length s) (rangeFault s)
+  pub range-placed : PlacedIn (length s) (rangeFault s)
   unfolding rangeFault
   range-placed = sweep-clean _ _ (length s) (records-below s 0) tt
 
-  name-placed : PlacedIn (length s) (nameFault s)
+  pub name-placed : PlacedIn (length s) (nameFault s)
   unfolding nameFault dangles
   name-placed = sweep-clean _ _ (length s) (records-below s 0) 0
 

@@ -1,6 +1,6 @@
 -- A predicate at each entry of a list: look-ups, stores, new entries, and what a test picks.
 --     All, all-each, .., all-map    a predicate
---     map-all, map-from, mapped     entries of a mapped list
+--     map-all, .., all-said         entries of a mapped list
 --     those-all, while-all          the members that pass a test; those before the first that does not
 -- Assumes nothing.
 use mathlib.Core.Path.{_≡_, refl}
@@ -29,6 +29,10 @@ module _ {A : Type 0} (P : A → Type 0) where
   pub all-push : (l : List A) (a : A) → All l → P a → All (l ++ (a ∷ []))
   all-push [] a h p = (p, tt)
   all-push (x ∷ xs) a h p = (h .0, all-push xs a (h .1) p)
+
+  pub all-append : (l m : List A) → All l → All m → All (l ++ m)
+  all-append [] m h k = k
+  all-append (x ∷ xs) m h k = (h .0, all-append xs m (h .1) k)
 
   pub all-at : (l : List A) (i : ℕ) (a : A) → All l → getElem? l i ≡ some a → P a
   all-at [] i a h e = impossible cc
@@ -71,6 +75,10 @@ all-both P Q R f (x ∷ xs) h k = (f x (h .0) (k .0), all-both P Q R f xs (h .1)
 pub mapped : {A B : Type 0} (P : A → Type 0) (Q : B → Type 0) (f : A → B) → ((a : A) → P a → Q (f a)) → (l : List A) → All P l → All Q (map f l)
 mapped P Q f g [] h = tt
 mapped P Q f g (x ∷ xs) h = (g x (h .0), mapped P Q f g xs (h .1))
+
+-- what holds of every image
+pub all-said : {A B : Type 0} (Q : B → Type 0) (f : A → B) → ((a : A) → Q (f a)) → (l : List A) → All Q (map f l)
+all-said Q f g l = mapped (λ a. Q (f a)) Q f (λ a h. h) l (all-each _ g l)
 
 -- a member that passes, with what is known of it
 pub record Passing (P : ℕ → Type 0) (f : ℕ → Bool) (o : ℕ) : Type 0 where

@@ -1,7 +1,7 @@
 -- Laws of the groups: the group of a kind, and the kinds of a group. antt computes them at every byte; no kind is above.
 --     groups                     a kind's group, from what the code tested
 --     group-most                 the groups are 0 to 5
---     is-cell, is-block, ..      the kinds of a group
+--     is-c, is-shape, ..         the kinds of a group
 --     group-span                 a kind of a group has a span
 -- Assumes nothing.
 use mathlib.Core.Path.{_≡_, refl}
@@ -47,6 +47,15 @@ module _ (k : ℕ) where
       go : (b : Bool) → ltb k 256 ≡ b → group k ≤ 5
       go true h = leb→le (group k) 5 (at (λ k. leb (group k) 5) 256 tt k (ltb-true k 256 h))
       go false h = let z = unknown layouts k tt (ltb-false k 256 h) in omega arith
+
+  pub is-c : group k ≡ 1 → k ≡ 1
+  unfolding group
+  is-c e = eqb→eq k 1 (kind-of 1 (omega arith) (λ k. eqb k 1) tt k e)
+
+  pub is-shape : group k ≡ 2 → (16 ≤ k) × (k ≤ 18)
+  unfolding group
+  is-shape e =
+      (leb→le 16 k (kind-of 2 (omega arith) (λ k. leb 16 k) tt k e), leb→le k 18 (kind-of 2 (omega arith) (λ k. leb k 18) tt k e))
 
   pub is-cell : group k ≡ 3 → k ≡ 32
   unfolding group

@@ -6,6 +6,7 @@ pub mod Groups
 pub mod Layouts
 pub mod Spans
 pub mod Records
+pub mod Digits
 pub mod Steps
 pub mod Standing
 pub mod Sweep

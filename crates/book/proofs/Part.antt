@@ -1,4 +1,5 @@
 -- A block's stretch, walked by its own offsets, has exactly the block's steps.
+--     up                            a number that is at least a is a or more
 --     step-same                     the same record at two places of two lists is the same step
 --     Parted, parted                the part of a book from a on up to where the steps from a on end
 -- Assumes nothing.
@@ -25,7 +26,7 @@ use Rattle.book.proofs.Past.{past-steps}
 use Rattle.book.proofs.Decoded.{is-put, is-name, is-code, is-add, is-new, is-read, is-write, is-relabel, is-lower, is-start}
 
 -- a number that is at least a is a or more
-up : {X : Type 0} (k a : ℕ) → a ≤ k → (k ≡ a → X) → (a + 1 ≤ k → X) → X
+pub up : {X : Type 0} (k a : ℕ) → a ≤ k → (k ≡ a → X) → (a + 1 ≤ k → X) → X
 up {X} k a h f g = go (eqb k a) refl
   where
     go : (b : Bool) → eqb k a ≡ b → X

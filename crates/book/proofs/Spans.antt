@@ -4,10 +4,11 @@
 --     offsets-end, offsets-cut, offsets-more     the records from an offset on
 --     fault-end, fault-cut, fault-more           z is the first that is cut, of those from an offset on
 --     Walked, walk, falls                        what a whole record says of the next
+--     packed-join                                records and then others, one after the other
 -- Assumes nothing.
-use mathlib.Core.Path.{_≡_, refl, ap}
+use mathlib.Core.Path.{_≡_, refl, sym, ap, _∙_}
 use mathlib.Core.Bool.{Bool, true, false}
-use mathlib.Core.List.{List, [], _∷_}
+use mathlib.Core.List.{List, [], _∷_, _++_, append-assoc}
 use Prim.Native.Nat.{ℕ, zero, suc, _+_, _-_, _≤_, _<_}
 use native.Mathlib.Omega.{arith}
 use lib.Dec.{eqb, ltb}
@@ -17,7 +18,7 @@ use Rattle.labels.proofs.Impossible.{impossible}
 use Rattle.book.specs.declared.Fault.{Fault}
 use Rattle.book.specs.declared.Fault.the-variants.{Nowhere, At}
 use Rattle.book.specs.Control.{either, sweep, first}
-use Rattle.book.specs.Spans.{byteAt, nextBy, cutBy, offsetsIn, offsetsBy}
+use Rattle.book.specs.Spans.{byteAt, nextBy, cutBy, offsetsIn, offsetsBy, packed}
 use Rattle.book.proofs.Tests.{either-left, either-right, either-true}
 
 module _ (span : ℕ → ℕ) where
@@ -136,3 +137,8 @@ module _ (span : ℕ → ℕ) where
     -- what is left of the bytes falls
     pub falls : (p : ℕ) → p ≡ nextBy span s o → length s - p < length s - o
     falls p e = omega (arith, walk .spanned, walk .inside)
+
+pub packed-join : {A : Type 0} (bytes : A → List ℕ) (l m : List A) → packed bytes (l ++ m) ≡ packed bytes l ++ packed bytes m
+packed-join bytes [] m = refl
+packed-join bytes (x ∷ l) m =
+    ap (λ (r : List ℕ). bytes x ++ r) (packed-join bytes l m) ∙ sym (append-assoc (bytes x) (packed bytes l) (packed bytes m))

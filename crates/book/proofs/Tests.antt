@@ -1,9 +1,9 @@
--- Laws of the tests: what a pair of tests says, and cases that cannot be.
+-- Laws of the tests: what a pair of tests says, cases that cannot be, and what holds of both branches.
 -- Assumes nothing.
 use mathlib.Core.Path.{_≡_, refl}
 use mathlib.Core.Bool.{Bool, true, false}
 use Rattle.labels.proofs.Impossible.{impossible}
-use Rattle.book.specs.Control.{both, either}
+use Rattle.book.specs.Control.{if_then_else_, both, either}
 
 pub clash : {X : Type 0} {b : Bool} → b ≡ true → b ≡ false → X
 clash p q = impossible cc
@@ -37,3 +37,7 @@ pub either-false : (a : Bool) → either a false ≡ a
 unfolding either
 either-false true = refl
 either-false false = refl
+
+pub if-both : {A : Type 0} (P : A → Type 0) (b : Bool) {x y : A} → P x → P y → P (if b then x else y)
+if-both P true p q = p
+if-both P false p q = q

@@ -1,6 +1,7 @@
 -- The parsed book: what stands at each record, and the whole as data, of which the typing rules and the machine speak.
 --     groupOf, stepsFrom        the records of a group; the steps of a block
 --     shapeAt, .., blockAt      what a record says
+--     kindOf, numberOf          the kind and the number of a value
 --     Book, parse               the book
 -- "Each is numbered from 0": a number is a place in one of these lists. Assumes nothing.
 use Prim.Native.Nat.{ℕ, _+_}
@@ -15,7 +16,7 @@ use Rattle.book.specs.declared.Declared.{Declared}
 use Rattle.book.specs.declared.Step.{Step}
 use Rattle.book.specs.declared.Step.the-variants.{Put, Name, Code, Add, New, Read, Write, Relabel, Lower, Start, Exec}
 use Rattle.book.specs.Numbers.{plainShapeKind, codeShapeKind, cellShapeKind, putKind, nameKind, codeKind, addKind, newKind, readKind, writeKind, relabelKind}
-use Rattle.book.specs.Numbers.{lowerKind, startKind, shapeGroup, cellGroup, blockGroup, stepGroup, plainValue, cellValue}
+use Rattle.book.specs.Numbers.{lowerKind, startKind, shapeGroup, cellGroup, blockGroup, stepGroup, plainValue, cellValue, codeValue}
 use Rattle.book.specs.Control.{if_then_else_, those, while}
 use Rattle.book.specs.Records.{byteAt, numberAt, records, recordsFrom, inGroup}
 
@@ -46,6 +47,17 @@ shapeAt s o =
 -- "value kind (0 plain, 1 cell, 2 code), number (for kinds 1 and 2 the cell or block number)"
 unfoldable pub valueOf : ℕ → ℕ → Value
 valueOf k n = if eqb k plainValue then Plain n else if eqb k cellValue then CellName n else CodeName n
+
+-- "0 plain, 1 cell, 2 code"
+abbrev pub kindOf : Value → ℕ
+kindOf (Plain n) = plainValue
+kindOf (CellName n) = cellValue
+kindOf (CodeName n) = codeValue
+
+abbrev pub numberOf : Value → ℕ
+numberOf (Plain n) = n
+numberOf (CellName n) = n
+numberOf (CodeName n) = n
 
 -- "32 cell: shape, label, value kind, number"
 unfoldable pub declaredAt : List ℕ → ℕ → Declared

@@ -1,12 +1,12 @@
 -- The records of a book, by their offsets: "A book is read record by record from its first byte."
---     numberAt                 a number; `byteAt` is that of `Spans`
+--     numberAt, numberBytes    a number, read and written; `byteAt` is that of `Spans`
 --     next, cut                the offset past a record; refusal 2 holds of it
 --     recordsFrom, records     the records from an offset on, up to one that refusal 2 holds of
 --     inGroup                  the group of a record
 -- Assumes nothing.
-use Prim.Native.Nat.{ℕ, _+_, _*_}
+use Prim.Native.Nat.{ℕ, _+_, _*_, _%_, _/_}
 use mathlib.Core.Bool.{Bool}
-use mathlib.Core.List.{List}
+use mathlib.Core.List.{List, [], _∷_}
 use lib.Dec.{eqb}
 use Rattle.book.specs.Kinds.{span, group}
 use Rattle.book.specs.Spans.{nextBy, cutBy, offsetsBy}
@@ -15,6 +15,9 @@ pub use Rattle.book.specs.Spans.{byteAt}
 -- "a number is 4 bytes, little-endian"
 unfoldable pub numberAt : List ℕ → ℕ → ℕ
 numberAt s o = byteAt s o + 256 * byteAt s (o + 1) + 65536 * byteAt s (o + 2) + 16777216 * byteAt s (o + 3)
+
+abbrev pub numberBytes : ℕ → List ℕ
+numberBytes n = n % 256 ∷ n / 256 % 256 ∷ n / 65536 % 256 ∷ n / 16777216 % 256 ∷ []
 
 abbrev pub next : List ℕ → ℕ → ℕ
 next s o = nextBy span s o

@@ -1,12 +1,13 @@
 -- Bytes laid out in records: "A record is one byte of kind, then a body whose length the kind fixes." The records of a book are, and
 -- "Events, laid out as records are". A span is how many bytes a record of a kind has, its kind byte too; 0 for a kind that is none.
---     byteAt                     a byte
+--     byteAt, Bytes              a byte; a list of bytes
 --     nextBy, cutBy              by a span: the offset past a record; the record is cut
 --     offsetsIn, offsetsBy       the offsets of the records from one on, up to one that is cut
+--     packed                     records one after the other
 -- Assumes nothing.
-use Prim.Native.Nat.{ℕ, zero, suc, _+_}
+use Prim.Native.Nat.{ℕ, zero, suc, _+_, _<_}
 use mathlib.Core.Bool.{Bool, true, false}
-use mathlib.Core.List.{List, [], _∷_}
+use mathlib.Core.List.{List, [], _∷_, _++_}
 use lib.ListN.{length, getD}
 use lib.Dec.{ltb, eqb}
 use Rattle.book.specs.Control.{either}
@@ -14,6 +15,10 @@ use Rattle.book.specs.Control.{either}
 -- a byte; 0 past the end
 abbrev pub byteAt : List ℕ → ℕ → ℕ
 byteAt s i = getD s i 0
+
+-- a list whose members are bytes, as every book and every event list is
+abbrev pub Bytes : List ℕ → Type 0
+Bytes l = (i : ℕ) → byteAt l i < 256
 
 module _ (span : ℕ → ℕ) where
   -- "one byte of kind, then a body whose length the kind fixes": the offset past the record at o
@@ -33,3 +38,9 @@ module _ (span : ℕ → ℕ) where
   -- there are no more records than bytes
   unfoldable pub offsetsBy : List ℕ → ℕ → List ℕ
   offsetsBy s o = offsetsIn (length s) s o
+
+-- the records one after the other
+module _ {A : Type 0} (bytes : A → List ℕ) where
+  abbrev pub packed : List A → List ℕ
+  packed [] = []
+  packed (x ∷ xs) = bytes x ++ packed xs

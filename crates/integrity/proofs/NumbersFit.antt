@@ -1,16 +1,16 @@
 -- In every run of a readable book, of bytes, every number in the tables fits its four bytes.
 --     numbers-fit
 -- Assumes nothing.
-use mathlib.Core.Bool.{Bool, true, false}
-use mathlib.Core.List.{List, map}
+use mathlib.Core.List.{List}
 use Prim.Native.Nat.{ℕ, _+_, _<_}
 use native.Mathlib.Omega.{arith}
 use lib.Dec.{eqb}
 use Rattle.book.specs.declared.Step.{Step}
-use Rattle.book.specs.Control.{if_then_else_}
 use Rattle.book.specs.Records.{byteAt, numberAt}
 use Rattle.book.specs.Book.{Book, declaredAt, stepAt, stepsFrom, blockAt, cellsOf, blocksOf, parse}
-use Rattle.book.proofs.Every.{All, all-each, all-in, map-from, mapped}
+use Rattle.book.proofs.Tests.{if-both}
+use Rattle.book.proofs.Digits.{number-small}
+use Rattle.book.proofs.Every.{All, all-in, map-from, all-said}
 use Rattle.book.proofs.Parsed.{SoundBook, sound}
 use Rattle.machine.specs.Histories.{lists, History}
 use Rattle.machine.specs.States.{Traced}
@@ -29,18 +29,12 @@ Fits n = n < 4294967296
 abbrev StepFits : Step → Type 0
 StepFits p = Fits (stepNumber p)
 
--- of both branches
-if-both : {A : Type 0} (P : A → Type 0) (b : Bool) {x y : A} → P x → P y → P (if b then x else y)
-if-both P true p q = p
-if-both P false p q = q
-
 module _ (s : List ℕ) (b : Bytes s) where
   byte-fits : (o : ℕ) → Fits (byteAt s o)
   byte-fits o = omega (arith, b o)
 
   number-fits : (o : ℕ) → Fits (numberAt s o)
-  unfolding numberAt
-  number-fits o = omega (arith, b o, b (o + 1), b (o + 2), b (o + 3))
+  number-fits = number-small s b
 
   declared-fits : (o : ℕ) → Fits (numberOf (declaredAt s o .value))
   unfolding declaredAt
@@ -73,10 +67,6 @@ module _ (s : List ℕ) (b : Bytes s) where
       (if-both (EventHas Fits) (eqb k 82) z
       (if-both (EventHas Fits) (eqb k 83) (number-fits (o + 4))
       (if-both (EventHas Fits) (eqb k 84) z z))))
-
-  -- all that a list of offsets says
-  all-said : {B : Type 0} (Q : B → Type 0) (f : ℕ → B) → ((o : ℕ) → Q (f o)) → (os : List ℕ) → All Q (map f os)
-  all-said Q f g os = mapped (λ o. Q (f o)) Q f (λ o h. h) os (all-each _ g os)
 
   book-fits : BookHas Fits (parse s)
   unfolding parse blockAt

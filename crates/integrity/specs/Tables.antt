@@ -7,6 +7,7 @@ use Prim.Native.Nat.{ℕ, _+_, _*_, _<_, _≤_}
 use lib.ListN.{length}
 use Rattle.book.specs.declared.Refusal.the-variants.{Passed}
 use Rattle.book.specs.Records.{byteAt}
+pub use Rattle.book.specs.Spans.{Bytes}
 use Rattle.book.specs.Book.{Book, parse}
 use Rattle.book.specs.Refusals.{unreadable}
 use Rattle.typing.specs.declared.Verdict.the-variants.{Accepted}
@@ -60,10 +61,6 @@ pub record JobFits (K : Book) (r : JobRecord) : Type 0 where
 -- "running 1 to 6": of every run of a book that can be read, accepted or not.
 abbrev pub JobsFit : Type 0
 JobsFit = (book : List ℕ) → unreadable book ≡ Passed → (list : List ℕ) (r : JobRecord) → r isIn jobRecords (finalState book list) → JobFits (parse book) r
-
--- a list whose members are bytes, as every book and every event list is
-abbrev pub Bytes : List ℕ → Type 0
-Bytes l = (i : ℕ) → byteAt l i < 256
 
 -- "A value is plain (32 bits), a cell or a block": so the four bytes of a number in the tables lose nothing.
 pub record NumbersFitIn (K : Book) (s : State History) : Type 0 where

@@ -6,24 +6,11 @@ use Prim.Native.Nat.{ℕ}
 use mathlib.Core.List.{List, map}
 use Rattle.labels.specs.declared.Label.{Label}
 use Rattle.labels.specs.declared.Trust.{Trust}
-use Rattle.book.specs.declared.Value.{Value}
-use Rattle.book.specs.declared.Value.the-variants.{Plain, CellName, CodeName}
-use Rattle.book.specs.Numbers.{plainValue, cellValue, codeValue}
 use Rattle.book.specs.Book.{Book}
+pub use Rattle.book.specs.Book.{kindOf, numberOf}
 use Rattle.machine.specs.Histories.{History, source}
 use Rattle.machine.specs.States.{Traced, Cell, Job, State}
 use Rattle.machine.specs.Events.{statedTrust}
-
--- "0 plain, 1 cell, 2 code"
-abbrev pub kindOf : Value → ℕ
-kindOf (Plain n) = plainValue
-kindOf (CellName n) = cellValue
-kindOf (CodeName n) = codeValue
-
-abbrev pub numberOf : Value → ℕ
-numberOf (Plain n) = n
-numberOf (CellName n) = n
-numberOf (CodeName n) = n
 
 -- "A stored value is kind, number and source, the lowest label of its history."
 pub record ValueRecord : Type 0 where

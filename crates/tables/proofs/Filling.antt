@@ -14,12 +14,13 @@ use native.Mathlib.Numerals.{add-one}
 use lib.ListN.{length, getD, take, drop, length-append, drop-of-length-le}
 use lib.Seq.{take-at, take-suc, take-all, drop-drop, drop-append-add}
 use Rattle.book.specs.Outline.{pad}
+use Rattle.book.proofs.Spans.{packed-join}
 use Rattle.tables.specs.Bytes.{packed}
-use Rattle.tables.specs.Asked.{putAt, cleared}
+use Rattle.records.specs.Copies.{putAt}
+use Rattle.tables.specs.Asked.{cleared}
 
 packed-append : {B : Type 0} (bytes : B → List ℕ) (l : List B) (x : B) → packed bytes (l ++ x ∷ []) ≡ packed bytes l ++ bytes x
-packed-append bytes [] x = append-nil (bytes x)
-packed-append bytes (y ∷ l) x = ap (λ (r : List ℕ). bytes y ++ r) (packed-append bytes l x) ∙ sym (append-assoc (bytes y) (packed bytes l) (bytes x))
+packed-append bytes l x = packed-join bytes l (x ∷ []) ∙ ap (λ (r : List ℕ). packed bytes l ++ r) (append-nil (bytes x))
 
 -- `of` gives the record of what the code holds, and `bytes` its k bytes
 module _ {A B : Type 0} (of : A → B) (bytes : B → List ℕ) (k : ℕ) where

@@ -16,7 +16,8 @@ use Rattle.acts.specs.declared.Stored.{Stored}
 use Rattle.acts.specs.declared.StoredCell.{StoredCell}
 use Rattle.acts.specs.declared.StoredJob.{StoredJob}
 use Rattle.tables.specs.Bytes.{valueBytes, cellBytes, jobBytes, packed, storedRecord, trustedRecord, cellRecordIn, jobRecordOf, cellTable, jobTable, savedCells, savedJobs}
-use Rattle.tables.specs.Asked.{putAt, cleared, Narrow, NarrowJobs, Saved}
+use Rattle.records.specs.Copies.{putAt}
+use Rattle.tables.specs.Asked.{cleared, Narrow, NarrowJobs, Saved}
 use Rattle.tables.proofs.Filling.{Packing, filled-start, filled-on, filled-whole, Saving, saving-start, saving-on, saving-end}
 
 pub record RegistersIn (d : List ℕ) (registers : List Stored) (out : List ℕ) (i : ℕ) : Type 0 where

@@ -1,18 +1,15 @@
 -- What the functions inside this crate do to a part of the lent memory, and what saving asks of jobs. No call that a user makes speaks of it.
---     putAt                 a list from an index on
 --     cleared               zeros from an index on
 --     Narrow, NarrowJobs    a job whose block and position are bytes; the first m of an array
 --     Saved                 a job is entry i of a table
 -- Assumes nothing.
-use Prim.Native.Nat.{ℕ, _+_, _*_, _-_, _<_}
+use Prim.Native.Nat.{ℕ, _*_, _-_, _<_}
 use mathlib.Core.Path.{_≡_}
 use mathlib.Core.List.{List, _++_}
-use lib.ListN.{length, take, drop, replicate, getD}
+use lib.ListN.{length, take, replicate, getD}
+use Rattle.records.specs.Copies.{putAt}
 use Rattle.acts.specs.declared.StoredJob.{StoredJob}
 use Rattle.tables.specs.Bytes.{jobBytes, jobRecordOf, jobLength}
-
-abbrev pub putAt : List ℕ → ℕ → List ℕ → List ℕ
-putAt d at s = take at d ++ s ++ drop (at + length s) d
 
 abbrev pub cleared : List ℕ → ℕ → List ℕ
 cleared d at = take at d ++ replicate (length d - at) 0

@@ -1,24 +1,23 @@
 -- The records of a run as bytes: 01, "The machine". A table is lent memory of 64 records, one after the other, numbers little-endian.
---     numberBytes, valueBytes, cellBytes, jobBytes    a number, and each record
+--     valueBytes, cellBytes, jobBytes                 each record; `numberBytes` is that of `book`
 --     cellLength, .., jobTableLength                  the bytes of a record, and of a table
---     packed, cellTable, jobTable                     records one after the other; the whole tables
+--     cellTable, jobTable                             the whole tables; `packed` is that of `book`
 --     storedRecord, cellRecordIn, jobRecordOf         the records of what the code holds
 --     savedCells, savedJobs                           the tables of what the code holds
 -- Assumes nothing.
-use Prim.Native.Nat.{ℕ, _*_, _%_, _/_}
+use Prim.Native.Nat.{ℕ, _*_}
 use mathlib.Core.List.{List, [], _∷_, _++_, map}
 use Rattle.labels.specs.declared.Trust.{Trust}
 use Rattle.book.specs.Outline.{pad, shapeIn}
+pub use Rattle.book.specs.Records.{numberBytes}
+pub use Rattle.book.specs.Spans.{packed}
 use Rattle.machine.specs.Events.{tableSize}
-use Rattle.machine.specs.Records.{kindOf, ValueRecord, CellRecord, JobRecord}
+use Rattle.book.specs.Book.{kindOf}
+use Rattle.machine.specs.Records.{ValueRecord, CellRecord, JobRecord}
 use Rattle.acts.specs.declared.Stored.{Stored}
 use Rattle.acts.specs.declared.StoredCell.{StoredCell}
 use Rattle.acts.specs.declared.StoredJob.{StoredJob}
 use Rattle.acts.specs.Views.{valueIn, storedContent}
-
--- "a number is 4 bytes, little-endian"
-abbrev pub numberBytes : ℕ → List ℕ
-numberBytes n = n % 256 ∷ n / 256 % 256 ∷ n / 65536 % 256 ∷ n / 16777216 % 256 ∷ []
 
 -- "A stored value is kind, number and source": 6 bytes
 abbrev pub valueBytes : ValueRecord → List ℕ
@@ -27,12 +26,6 @@ valueBytes v = v .kind ∷ numberBytes (v .number) ++ v .source .0 ∷ []
 -- "A cell record holds shape, trust, label and value": 9 bytes
 abbrev pub cellBytes : CellRecord → List ℕ
 cellBytes c = c .shape ∷ c .trust .0 ∷ c .label .0 ∷ valueBytes (c .value)
-
--- the records one after the other
-module _ {A : Type 0} (bytes : A → List ℕ) where
-  abbrev pub packed : List A → List ℕ
-  packed [] = []
-  packed (x ∷ xs) = bytes x ++ packed xs
 
 -- "a job record block, position .., label, registers and its own source": 52 bytes, the source before the registers. Block and position are
 -- one byte each, and fit: `JobsFit` of `integrity`.

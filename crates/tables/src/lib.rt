@@ -6,22 +6,12 @@ use acts::StoredCell;
 use acts::StoredJob;
 use labels::Trust;
 ghost use mathlib.Core.Path.{_≡_};
-ghost use Prim.Native.Nat.{_+_, _≤_, _<_};
+ghost use Prim.Native.Nat.{_≤_, _<_};
 ghost use lib.ListN.{length, take};
 ghost use Rattle.tables.specs.Bytes.{valueBytes, cellBytes, jobBytes, storedRecord, trustedRecord, jobRecordOf, savedCells};
-ghost use Rattle.tables.specs.Asked.{putAt, cleared, Narrow, Saved};
+ghost use Rattle.tables.specs.Asked.{cleared, Narrow, Saved};
 pub use opening::open_cells;
 pub use opening::start_of;
-
-// Copies src into dst, from index at on.
-fn copy_in(dst: &mut [u8], at: usize, src: &[u8])
-    requires { ⌜ at + length (now src) ≤ length (now dst) ⌝ }
-    ensures { λ _. ⌜ now (dst .exit) ≡ putAt (now (dst .entry)) at (now (src .entry)) ⌝ }
-{
-    for j in 0..src.len() {
-        dst[at + j] = src[j];
-    }
-}
 
 // Zeros from index at on.
 pub fn clear_from(dst: &mut [u8], at: usize)
@@ -83,7 +73,7 @@ fn job_bytes(j: StoredJob) -> [u8; StoredJob::BYTES]
     while i < 8 {
         let v = registers[i];
         let b = value_bytes(v);
-        copy_in(&mut out, 4 + i * 6, &b);
+        records::copy_in(&mut out, 4 + i * 6, &b);
         i = i + 1;
     }
     out
@@ -104,7 +94,7 @@ pub fn save_cells(
         let c = cells[i];
         let shape = decode::shape_in(shapes, c.shape);
         let b = cell_bytes(c, shape.trust);
-        copy_in(out, i * StoredCell::BYTES, &b);
+        records::copy_in(out, i * StoredCell::BYTES, &b);
         i = i + 1;
     }
     clear_from(out, n * StoredCell::BYTES);
@@ -116,5 +106,5 @@ pub fn save_job(j: StoredJob, i: usize, out: &mut [u8])
     ensures { λ _. ⌜ Saved j i (now (out .entry)) (now (out .exit)) ⌝ }
 {
     let b = job_bytes(j);
-    copy_in(out, i * StoredJob::BYTES, &b);
+    records::copy_in(out, i * StoredJob::BYTES, &b);
 }

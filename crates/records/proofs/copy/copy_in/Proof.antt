@@ -1,9 +1,9 @@
--- `copy_in` meets its contract. The bytes up to the index are copied. Assumes nothing.
+-- `copy::copy_in` meets its contract. The bytes up to the index are copied. Assumes nothing.
 use Prim.Native.Nat.{_-_}
 use borrow.Author.Needs.{needs}
-use Rattle.tables.proofs.Parts.{Copying, copies}
-use Rattle.tables.proofs.copy_in.Tie as tie
-use Rattle.tables.proofs.copy_in.Statement.{statement}
+use Rattle.records.proofs.Copies.{Copying, copies}
+use Rattle.records.proofs.copy.copy_in.Tie as tie
+use Rattle.records.proofs.copy.copy_in.Statement.{statement}
 
 abbrev Inv-loop : tie.InvT-loop
 Inv-loop dst₀ at src j₀ j-end dst j = Copying dst₀ at src j-end dst j
