@@ -1,0 +1,14 @@
+pub mod Numbers
+pub mod LentNumbers
+pub mod Writable
+pub mod RowsBack
+pub mod Fine
+pub mod Tables
+pub mod BlocksBack
+pub mod ReadBack
+pub mod RecordRows
+pub mod Laid
+pub mod AsRows
+pub mod WrittenAgain
+pub mod Repacked
+pub mod TakenApart

@@ -1,0 +1,4 @@
+pub mod Rows
+pub mod Parsed
+pub mod Write
+pub mod Samples
