@@ -1,13 +1,13 @@
-/* Xemdulba: checks a control job book before it runs, runs it, and tells its records one by one. Link libxemdulba.a: `rt staticlib
- * xemdulba` proves it and writes target/staticlib/libxemdulba.a.
+/* Xemdulba: checks a control job book before it runs, runs it, tells its records one by one, and writes a book from tables. Link
+ * libxemdulba.a: `rt staticlib xemdulba` proves it and writes target/staticlib/libxemdulba.a.
  *
  * Every call returns on every input and answers what the proved definitions say. xemdulba_run writes to its two tables and its answers
- * alone; xemdulba_check, xemdulba_block, xemdulba_record and xemdulba_event write to no memory that they are lent. A book is any bytes,
- * and so is an event list. A pointer is that of so many bytes as its length says, which nobody else changes during the call; where the
- * length is 0 it may be any address, not null. A length is below 2^63, as that of any object is. Every number is the definitions' own:
- * it is proved that it fits in 32 bits, and an offset in a size_t. No start or length of a stretch is above 32,768, and no place above
- * 32,768, or 65,536 for refusal 9. No call uses a heap or keeps a state. How much stack a call uses was measured, not proved: see
- * bench/run.
+ * alone, and xemdulba_write to its output buffer alone; xemdulba_check, xemdulba_block, xemdulba_record and xemdulba_event write to no
+ * memory that they are lent. A book is any bytes, and so is an event list, or a table of rows. A pointer is that of so many bytes as
+ * its length says, which nobody else changes during the call; where the length is 0 it may be any address, not null. A length is below
+ * 2^63, as that of any object is. Every number is the definitions' own: it is proved that it fits in 32 bits, and an offset in a
+ * size_t. No start or length of a stretch is above 32,768, and no place above 32,768, or 65,536 for refusal 9. No call uses a heap or
+ * keeps a state. How much stack a call uses was measured, not proved: see bench/run.
  */
 #ifndef XEMDULBA_H
 #define XEMDULBA_H
@@ -22,9 +22,13 @@ extern "C" {
 /* The version that this header declares. */
 #define XEMDULBA_VERSION "0.1.0"
 
+/* The last change request whose calls and refusals this header has: one, the writer. Each later request sets its own number. */
+#define XEMDULBA_REQUEST 1
+
 /* The refusals, and what the rule of each says. A refusal has a place: the offset of the first record at fault in the book, or of the
- * first event at fault in the list for 9. It is 0 for 1 and for 10 to 12, where a list is too long, and where the first record is
- * missing, and the book's length where no block stands. The first in this order that holds is the one that is reported. */
+ * first event at fault in the list for 9. It is 0 for 1 and for 10 to 13, where a list is too long, and where the first record is
+ * missing, and the book's length where no block stands. The first in this order that holds is the one that is reported. The places of
+ * a book that is not written, and what else refuses one by 2 and 5, stand at xemdulba_write. */
 enum xemdulba_refusal {
     XEMDULBA_NOT_REFUSED = 0,
     /* the book is longer than 32768 bytes */
@@ -51,7 +55,9 @@ enum xemdulba_refusal {
     /* the answer buffer has fewer bytes than the list has events */
     XEMDULBA_REFUSED_ANSWERS = 11,
     /* the block asked for does not exist */
-    XEMDULBA_REFUSED_BLOCK = 12
+    XEMDULBA_REFUSED_BLOCK = 12,
+    /* the output buffer is too short */
+    XEMDULBA_REFUSED_OUTPUT = 13
 };
 
 /* The verdict on a book. Accepted: refusal 0, place 0, and how many shapes, cells, blocks and steps the book has. Refused, by 1 to 8:
@@ -96,6 +102,14 @@ struct xemdulba_told {
     size_t next;
 };
 
+/* What writing a book gives. It is written: refusal 0, place 0, and how many bytes of the buffer it has. Refused, by 1 to 6 or 13: the
+ * number and the place, and the length is 0. */
+struct xemdulba_written {
+    uint32_t refusal;
+    uint32_t place;
+    uint32_t length;
+};
+
 /* The tables that a run leaves hold 64 records each, those in use first, in the order in which they came to be, and zeros behind them.
  * A number of 4 bytes is little-endian.
  *   value, 6 bytes    kind (0 plain, 1 cell, 2 code), number (4 bytes), source
@@ -106,6 +120,21 @@ struct xemdulba_told {
 #define XEMDULBA_JOB_SIZE 52
 #define XEMDULBA_CELLS_SIZE 576
 #define XEMDULBA_JOBS_SIZE 3328
+
+/* The tables that a book is written from hold rows of so many bytes, one behind the other. A number of 4 bytes is little-endian.
+ *   shape, 3 bytes    kind, x, y
+ *   cell, 7 bytes     shape, label, value kind, number (4 bytes)
+ *   block, 5 bytes    bound, how many steps it has (4 bytes)
+ *   step, 8 bytes     kind, x, y, z, number (4 bytes)
+ * A kind is 16 to 18 in a shape, and 64 to 74 in a step; x, y and z are the fields of one byte that xemdulba_record has for the kind, in
+ * that order, and those that it does not have are 0. So is the number of every step but put. */
+#define XEMDULBA_SHAPE_ROW 3
+#define XEMDULBA_CELL_ROW 7
+#define XEMDULBA_BLOCK_ROW 5
+#define XEMDULBA_STEP_ROW 8
+
+/* A buffer of so many bytes is long enough for every book that is written. */
+#define XEMDULBA_LONGEST_BOOK 25057
 
 /* Checks a book. Accepted, with true counts, exactly when the typing rules allow it. */
 struct xemdulba_checked xemdulba_check(const uint8_t *book, size_t length);
@@ -139,6 +168,27 @@ struct xemdulba_told xemdulba_event(const uint8_t *list, size_t length, size_t o
  * nothing is written. The caller sees to it that `cells`, `jobs` and `answers` overlap neither each other nor the book or the list. */
 struct xemdulba_ran xemdulba_run(const uint8_t *book, size_t length, const uint8_t *list, size_t list_length, uint8_t *cells,
                                  size_t cells_length, uint8_t *jobs, size_t jobs_length, uint8_t *answers, size_t answers_length);
+
+/* Writes the book of C and these tables to the start of `out`: C, the shapes, the cells, and each block with its steps behind it, which
+ * are the next so many rows of the steps as the block's row says. A table has as many rows as whole rows fit in its length; bytes behind
+ * them play no part. A C above 255 counts as 255. The bytes that are written can be read, and have these rows again; and a book that can
+ * be read is written with its own bytes from its own rows. The typing rules are not tried.
+ * The refusals are tried in this order, each for the whole book before the next; the place is the offset where the record would stand:
+ *   1   the book would be longer than 32,768 bytes. A row whose kind is none of its table's counts as one byte, and
+ *       steps that no block has count too
+ *   2   at 0: the blocks' numbers of steps do not add up to the rows of the steps
+ *   2   the kind of a shape is none of a shape, or that of a step none of a step
+ *   3   at the length: no block stands
+ *   4   a record is beyond 32 shapes, 32 cells, 64 blocks or 64 steps in a block
+ *   5   a field is above its limit, or one that its kind does not have is not 0
+ *   6   a content shape is not lower-numbered than its cell shape, a cell or new names no cell shape, or a cell or block number does
+ *       not exist
+ *   13  at 0: `out_length` is below the length of the book
+ * Bytes of `out` beyond the book keep their contents, and on a refusal nothing is written. The caller sees to it that `out` overlaps
+ * none of the tables. */
+struct xemdulba_written xemdulba_write(uint32_t c, const uint8_t *shapes, size_t shapes_length, const uint8_t *cells,
+                                       size_t cells_length, const uint8_t *blocks, size_t blocks_length, const uint8_t *steps,
+                                       size_t steps_length, uint8_t *out, size_t out_length);
 
 #ifdef __cplusplus
 }

@@ -1,9 +1,10 @@
-/* A test of what the header declares, in C and in C++: the two calls tell records and events by the tables of docs/FORMAT.md, and the
- * refusals have their numbers. Prints each difference; exit status 0 if there is none. */
+/* A test of what the header declares, in C and in C++: the two calls tell records and events by the tables of docs/FORMAT.md, a book is
+ * written from rows of their sizes, and the refusals have their numbers. Prints each difference; exit status 0 if there is none. */
 #include "xemdulba.h"
 
 #include <stdint.h>
 #include <stdio.h>
+#include <string.h>
 
 static int failures;
 
@@ -42,6 +43,57 @@ static void tell_events(void)
     expect("far past the end", xemdulba_event(list, sizeof list, SIZE_MAX), 0, 0, 0, 0, 0, 0);
 }
 
+/* A code shape and a cell shape, a cell, and two blocks, the second with a put. */
+static const uint8_t shapes[] = {0x11, 0x0F, 0x00, 0x12, 0x00, 0x0E};
+static const uint8_t cells[] = {0x01, 0x0D, 0x02, 0x01, 0x00, 0x00, 0x00};
+static const uint8_t blocks[] = {0x0C, 0x00, 0x00, 0x00, 0x00, 0x0B, 0x01, 0x00, 0x00, 0x00};
+static const uint8_t steps[] = {0x40, 0x07, 0x00, 0x00, 0x78, 0x56, 0x34, 0x12};
+
+static void expect_written(const char *name, uint32_t c, uint8_t *out, size_t room, uint32_t refusal, uint32_t length)
+{
+    struct xemdulba_written written = xemdulba_write(c, shapes, sizeof shapes, cells, sizeof cells, blocks, sizeof blocks, steps,
+                                                     sizeof steps, out, room);
+
+    if (written.refusal != refusal || written.place != 0 || written.length != length) {
+        printf("%s is written otherwise\n", name);
+        failures++;
+    }
+}
+
+static void expect_bytes(const char *name, const uint8_t *out, const uint8_t *bytes, size_t length)
+{
+    if (memcmp(out, bytes, length) != 0) {
+        printf("%s leaves other bytes in the buffer\n", name);
+        failures++;
+    }
+}
+
+/* The buffer has 25 bytes for the book, and two more that are kept. */
+static void write_book(void)
+{
+    static const uint8_t book[] = {0x01, 0x00, 0x11, 0x0F, 0x12, 0x00, 0x0E, 0x20, 0x01, 0x0D, 0x02, 0x01, 0x00, 0x00,
+                                   0x00, 0x30, 0x0C, 0x30, 0x0B, 0x40, 0x07, 0x78, 0x56, 0x34, 0x12, 0xA5, 0xA5};
+    uint8_t before[sizeof book], out[sizeof book];
+
+    memset(before, 0xA5, sizeof before);
+    memset(out, 0xA5, sizeof out);
+    expect_written("a short buffer", 0, out, 24, XEMDULBA_REFUSED_OUTPUT, 0);
+    expect_written("a C of 15", 15, out, sizeof out, XEMDULBA_REFUSED_TOO_HIGH, 0);
+    expect_bytes("a refusal", out, before, sizeof out);
+    expect_written("a book", 0, out, sizeof out, XEMDULBA_NOT_REFUSED, 25);
+    expect_bytes("a book", out, book, sizeof out);
+}
+
+/* The sizes of docs/FORMAT.md. */
+static void size_rows(void)
+{
+    if (XEMDULBA_SHAPE_ROW != 3 || XEMDULBA_CELL_ROW != 7 || XEMDULBA_BLOCK_ROW != 5 || XEMDULBA_STEP_ROW != 8 ||
+        XEMDULBA_LONGEST_BOOK != 25057) {
+        printf("a row or the longest book has another size\n");
+        failures++;
+    }
+}
+
 /* The numbers of docs/FORMAT.md. */
 static void number_refusals(void)
 {
@@ -49,12 +101,12 @@ static void number_refusals(void)
         XEMDULBA_NOT_REFUSED,      XEMDULBA_REFUSED_TOO_LONG, XEMDULBA_REFUSED_UNREADABLE, XEMDULBA_REFUSED_ORDER,
         XEMDULBA_REFUSED_TOO_MANY, XEMDULBA_REFUSED_TOO_HIGH, XEMDULBA_REFUSED_NO_SUCH,    XEMDULBA_REFUSED_CELL,
         XEMDULBA_REFUSED_STEP,     XEMDULBA_REFUSED_EVENTS,   XEMDULBA_REFUSED_TABLES,     XEMDULBA_REFUSED_ANSWERS,
-        XEMDULBA_REFUSED_BLOCK,
+        XEMDULBA_REFUSED_BLOCK,    XEMDULBA_REFUSED_OUTPUT,
     };
     static const uint8_t no_block[] = {0x01, 0x03};
     int i;
 
-    for (i = 0; i <= 12; i++) {
+    for (i = 0; i <= 13; i++) {
         if (numbers[i] != i) {
             printf("refusal %d has the number %d\n", i, numbers[i]);
             failures++;
@@ -70,6 +122,8 @@ int main(void)
 {
     tell_records();
     tell_events();
+    write_book();
+    size_rows();
     number_refusals();
     return failures == 0 ? 0 : 1;
 }

@@ -1,4 +1,5 @@
-"""The sample books and runs of document 01, the tables of docs/FORMAT.md, and what the module accepts."""
+"""The sample books and runs of document 01, the tables of docs/FORMAT.md, the books that are written by document 02's request one, and
+what the module accepts."""
 
 import array
 import ctypes
@@ -11,11 +12,12 @@ from pathlib import Path
 from unittest import mock
 
 import xemdulba
-from xemdulba import Answer, Cell, Fields, Kind, Refusal, Value, _library
+from xemdulba import Answer, BlockRow, BookTables, Cell, CellRow, Fields, Kind, Refusal, ShapeRow, StepRow, Value, _library
 
 SOURCES = Path(__file__).resolve().parents[2]
 HEADER = (SOURCES / "include" / "xemdulba.h").read_text(encoding="utf-8")
 LIBRARY = (SOURCES / "docs" / "LIBRARY.md").read_text(encoding="utf-8")
+FORMAT = (SOURCES / "docs" / "FORMAT.md").read_text(encoding="utf-8")
 
 BOOK_A = bytes.fromhex("01 03  10  12 00 09  20 01 09 00 05 00 00 00  30 0C  41 00 00  40 01 07 00 00 00  46 00 01")
 BOOK_A2 = BOOK_A[:15] + b"\x08" + BOOK_A[16:]
@@ -23,13 +25,15 @@ BOOK_A6 = BOOK_A[:25] + bytes.fromhex("47 00 08")
 FOUR_STEPS = bytes.fromhex("50 00 50 00 50 00 50 00")
 
 
-class Samples(unittest.TestCase):
+class Refusing(unittest.TestCase):
     def assert_refused(self, number, place, call, *arguments):
         with self.assertRaises(Refusal) as caught:
             call(*arguments)
         self.assertEqual((caught.exception.number, caught.exception.place), (number, place))
         self.assertEqual(str(caught.exception), f"refused {number} at {place}")
 
+
+class Samples(Refusing):
     def test_book_a_is_accepted_with_its_counts(self):
         counts = xemdulba.check(BOOK_A)
         self.assertEqual(counts, (2, 1, 1, 3))
@@ -158,11 +162,230 @@ class Told(unittest.TestCase):
                 self.assertRaises(ValueError, call, BOOK_A, offset)
 
 
+TABLES_A = BookTables(
+    c=3,
+    shapes=(ShapeRow(16), ShapeRow(18, 0, 9)),
+    cells=(CellRow(1, 9, 0, 5),),
+    blocks=(BlockRow(12, 3),),
+    steps=(StepRow(65, 0, 0), StepRow(64, 1, number=7), StepRow(70, 0, 1)),
+)
+
+# A record of every kind; block 0 has no steps.
+BOOK_OF_ALL = bytes.fromhex(
+    "01 00  11 0F  12 00 0E  10  20 01 0D 02 01 00 00 00  30 0C  30 0B  40 07 78 56 34 12  41 06 00  42 05 01  43 01 02 03"
+    "44 04 01 02  45 03 04  46 02 05  47 01 0F  48 0E  49 01  4A 07"
+)
+TABLES_OF_ALL = BookTables(
+    c=0,
+    shapes=((17, 15, 0), (18, 0, 14), (16, 0, 0)),
+    cells=((1, 13, 2, 1),),
+    blocks=((12, 0), (11, 11)),
+    steps=(
+        (64, 7, 0, 0, 0x12345678),
+        (65, 6, 0, 0, 0),
+        (66, 5, 1, 0, 0),
+        (67, 1, 2, 3, 0),
+        (68, 4, 1, 2, 0),
+        (69, 3, 4, 0, 0),
+        (70, 2, 5, 0, 0),
+        (71, 1, 15, 0, 0),
+        (72, 14, 0, 0, 0),
+        (73, 1, 0, 0, 0),
+        (74, 7, 0, 0, 0),
+    ),
+)
+
+
+def sample_books():
+    """The books of the folder `books`."""
+    folder = SOURCES / "books"
+    hexadecimal = (folder / "whatif.hex").read_text(encoding="ascii").replace(",", " ")
+    return [*(path.read_bytes() for path in sorted(folder.glob("*.book"))), bytes.fromhex(hexadecimal)]
+
+
+def changed(table, at, **fields):
+    """A table with other fields in one row."""
+    return (*table[:at], table[at]._replace(**fields), *table[at + 1 :])
+
+
+def refusal_of(tables):
+    """The number by which tables are refused, or 0."""
+    try:
+        xemdulba.write(*tables)
+    except Refusal as refusal:
+        return refusal.number
+    return 0
+
+
+def tables_with_one(kind, field):
+    """Book A's tables with one more shape, or with one step in all, of which a field is 1."""
+    if kind <= 18:
+        return TABLES_A._replace(shapes=(*TABLES_A.shapes, ShapeRow(kind)._replace(**{field: 1})))
+    return TABLES_A._replace(blocks=(BlockRow(12, 1),), steps=(StepRow(kind)._replace(**{field: 1}),))
+
+
+class Written(Refusing):
+    def refuses(self, number, place, **changes):
+        """Book A's tables, with some of them changed, are refused."""
+        self.assert_refused(number, place, xemdulba.write, *TABLES_A._replace(**changes))
+
+    def test_book_a_is_written_and_taken_apart(self):
+        self.assertEqual(xemdulba.write(*TABLES_A), BOOK_A)
+        self.assertEqual(xemdulba.tables(BOOK_A), TABLES_A)
+
+    def test_every_record_is_written_and_taken_apart(self):
+        self.assertEqual(xemdulba.write(*TABLES_OF_ALL), BOOK_OF_ALL)
+        self.assertEqual(xemdulba.tables(BOOK_OF_ALL), TABLES_OF_ALL)
+
+    def test_the_sample_books_are_written_again(self):
+        """A1 to A15 and one more; A12 to A14 cannot be read."""
+        written = []
+        for book in sample_books():
+            try:
+                tables = xemdulba.tables(book)
+            except Refusal as refusal:
+                self.assert_refused(refusal.number, refusal.place, xemdulba.check, book)
+            else:
+                self.assertEqual(xemdulba.write(*tables), book)
+                written.append(book)
+        self.assertEqual((len(sample_books()), len(written)), (16, 13))
+
+    def test_the_rows_are_named(self):
+        tables = xemdulba.tables(BOOK_A)
+        self.assertEqual((tables.c, tables.shapes[1].y, tables.cells[0].label, tables.blocks[0].steps), (3, 9, 9, 3))
+        self.assertEqual(tables.steps[1], StepRow(kind=64, x=1, y=0, z=0, number=7))
+
+    def test_a_table_is_rows_of_any_sort(self):
+        rows = ([list(row) for row in table] for table in TABLES_A[1:])
+        self.assertEqual(xemdulba.write(3, *rows), BOOK_A)
+        self.assertEqual(xemdulba.write(3, *(iter(table) for table in TABLES_A[1:])), BOOK_A)
+
+    def test_1_is_by_the_length(self):
+        self.refuses(1, 0, steps=(StepRow(72),) * 20_000)
+        self.refuses(1, 0, blocks=(), steps=(StepRow(72),) * 20_000)
+        unknown = (ShapeRow(0),)  # one byte each, behind the two of C
+        self.refuses(1, 0, shapes=unknown * 32_767, cells=(), blocks=(), steps=())
+        self.refuses(2, 2, shapes=unknown * 32_766, cells=(), blocks=(), steps=())
+
+    def test_2_is_first_by_the_counts(self):
+        for steps in (0, 2, 4, 2**32 - 1):
+            self.refuses(2, 0, blocks=(BlockRow(12, steps),))
+        self.refuses(2, 0, blocks=())
+        self.refuses(2, 0, blocks=(BlockRow(12, 2**31), BlockRow(12, 2**31), BlockRow(12, 3)))
+        self.refuses(2, 0, shapes=(ShapeRow(64),), blocks=(BlockRow(12, 4),))
+
+    def test_2_is_then_by_an_unknown_kind(self):
+        self.refuses(2, 2, shapes=changed(TABLES_A.shapes, 0, kind=32))
+        self.refuses(2, 3, shapes=changed(TABLES_A.shapes, 1, kind=64))
+        self.refuses(2, 19, steps=changed(TABLES_A.steps, 1, kind=16))
+        self.refuses(2, 25, steps=changed(TABLES_A.steps, 2, kind=48))
+
+    def test_3_is_where_no_block_stands(self):
+        self.refuses(3, 14, blocks=(), steps=())
+        self.assert_refused(3, 2, xemdulba.write, 3, (), (), (), ())
+
+    def test_4_is_a_record_too_many(self):
+        self.refuses(4, 2 + 32, shapes=(ShapeRow(16),) * 33)
+        self.refuses(4, 6 + 32 * 8, cells=TABLES_A.cells * 33)
+        self.refuses(4, 14 + 64 * 2, blocks=(BlockRow(12, 0),) * 65, steps=())
+        self.refuses(4, 16 + 64 * 2, blocks=(BlockRow(12, 65),), steps=(StepRow(72),) * 65)
+
+    def test_5_is_a_field_above_its_limit(self):
+        for c in (15, 255, 256, 256 + 3, 2**32 - 1):
+            self.refuses(5, 0, c=c)
+        self.refuses(5, 3, shapes=changed(TABLES_A.shapes, 1, y=16))
+        self.refuses(5, 6, cells=changed(TABLES_A.cells, 0, kind=3))
+        self.refuses(5, 14, blocks=(BlockRow(16, 3),))
+        self.refuses(5, 16, steps=changed(TABLES_A.steps, 0, x=8))
+
+    def test_5_is_a_field_that_its_kind_does_not_use(self):
+        self.refuses(5, 2, shapes=changed(TABLES_A.shapes, 0, x=1))
+        self.refuses(5, 2, shapes=changed(TABLES_A.shapes, 0, y=1))
+        self.refuses(5, 16, steps=changed(TABLES_A.steps, 0, z=1))
+        self.refuses(5, 19, steps=changed(TABLES_A.steps, 1, y=1))
+        self.refuses(5, 25, steps=changed(TABLES_A.steps, 2, number=1))
+
+    def test_5_is_by_the_documents_table_of_fields(self):
+        section = FORMAT.split("\n## A book from tables\n")[1].split("\n## ")[0]
+        table = section.split("\n| row | kind | x | y | z | number |\n")[1].split("\n\n")[0]
+        shown = [[field.strip() for field in line.split("|")[2:-1]] for line in table.splitlines()[1:]]
+        self.assertEqual([int(kind) for kind, *_ in shown], [16, 17, 18, *range(64, 75)])
+        for kind, *uses in shown:
+            for name, use in zip(("x", "y", "z", "number"), uses):
+                if use:
+                    with self.subTest(kind=kind, field=name):
+                        self.assertEqual(refusal_of(tables_with_one(int(kind), name)) == 5, use == "-")
+
+    def test_5_is_at_the_first_record_by_either_cause(self):
+        spare, high = {"z": 1}, {"x": 8}
+        self.refuses(5, 16, steps=changed(changed(TABLES_A.steps, 0, **spare), 2, **high))
+        self.refuses(5, 16, steps=changed(changed(TABLES_A.steps, 0, **high), 2, **spare))
+
+    def test_6_is_what_does_not_exist(self):
+        self.refuses(6, 3, shapes=changed(TABLES_A.shapes, 1, x=1))
+        self.refuses(6, 6, cells=changed(TABLES_A.cells, 0, shape=0))
+        self.refuses(6, 16, steps=changed(TABLES_A.steps, 0, y=1))
+
+    def test_13_is_a_short_buffer(self):
+        with mock.patch.object(xemdulba, "LONGEST_BOOK", 27):
+            self.refuses(13, 0)
+            self.refuses(6, 16, steps=changed(TABLES_A.steps, 0, y=1))
+        with mock.patch.object(xemdulba, "LONGEST_BOOK", 28):
+            self.assertEqual(xemdulba.write(*TABLES_A), BOOK_A)
+
+    def test_the_typing_rules_are_not_tried(self):
+        book = xemdulba.write(*TABLES_A._replace(cells=changed(TABLES_A.cells, 0, label=8)))
+        self.assert_refused(7, 6, xemdulba.check, book)
+
+    def test_the_longest_book_is_written(self):
+        shapes = (ShapeRow(17, 15), *(ShapeRow(18, 0, 9),) * 31)
+        put = StepRow(64, 7, number=2**32 - 1)
+        tables = BookTables(3, shapes, TABLES_A.cells * 32, (BlockRow(0, 64),) * 64, (put,) * 64 * 64)
+        book = xemdulba.write(*tables)
+        self.assertEqual(len(book), xemdulba.LONGEST_BOOK)
+        self.assertEqual(xemdulba.tables(book), tables)
+
+    def test_what_is_no_row_is_named(self):
+        for table, rows, words in (
+            ("shapes", [(16, 0, 0), (18, 0)], "shapes[1] must have 3 fields (kind, x, y), not 2"),
+            ("cells", [(1, 9, 0, 5, 0)], "cells[0] must have 4 fields (shape, label, kind, number), not 5"),
+            ("blocks", [()], "blocks[0] must have 2 fields (bound, steps), not 0"),
+            ("steps", [(65, 0, 0, 0)], "steps[0] must have 5 fields (kind, x, y, z, number), not 4"),
+            ("shapes", [(16, 0, 0), (18, 0, 256)], "shapes[1].y must be a number of 8 bits"),
+            ("cells", [(-1, 9, 0, 5)], "cells[0].shape must be a number of 8 bits"),
+            ("cells", [(1, 9, 0, 2**32)], "cells[0].number must be a number of 32 bits"),
+            ("blocks", [(12, 3), (256, 0)], "blocks[1].bound must be a number of 8 bits"),
+            ("blocks", [(12, -1)], "blocks[0].steps must be a number of 32 bits"),
+            ("steps", [*TABLES_A.steps, (256, 0, 0, 0, 0)], "steps[3].kind must be a number of 8 bits"),
+            ("steps", [(64, 0, 0, 0, 2**32)], "steps[0].number must be a number of 32 bits"),
+        ):
+            with self.assertRaises(ValueError) as caught:
+                xemdulba.write(*TABLES_A._replace(**{table: rows}))
+            self.assertEqual(str(caught.exception), words)
+
+    def test_c_is_a_number_of_32_bits(self):
+        for c in (-1, 2**32):
+            self.assertRaises(ValueError, xemdulba.write, c, *TABLES_A[1:])
+
+    def test_other_types_are_not_rows(self):
+        for table, rows, words in (
+            ("shapes", [16], "shapes[0] must be a row, not int"),
+            ("cells", [(1, 9, Kind.PLAIN, 5)], "cells[0].kind must be an int, not Kind"),
+            ("steps", [(65, 0, "0", 0, 0)], "steps[0].y must be an int, not str"),
+            ("c", 3.0, "c must be an int, not float"),
+        ):
+            with self.assertRaises(TypeError) as caught:
+                xemdulba.write(*TABLES_A._replace(**{table: rows}))
+            self.assertEqual(str(caught.exception), words)
+        for table in ("shapes", "cells", "blocks", "steps"):
+            self.assertRaises(TypeError, xemdulba.write, *TABLES_A._replace(**{table: None}))
+
+
 class Words(unittest.TestCase):
     def test_the_rules_are_the_headers(self):
         listed = HEADER.split("enum xemdulba_refusal {")[1].split("};")[0]
         commented = re.findall(r"/\*(.*?)\*/\s*XEMDULBA_REFUSED_\w+ = (\d+)", listed, re.DOTALL)
-        self.assertEqual([int(number) for _, number in commented], list(range(1, 13)))
+        self.assertEqual([int(number) for _, number in commented], list(range(1, 14)))
         for comment, number in commented:
             words = " ".join(word for word in comment.split() if word != "*")
             self.assertEqual(Refusal(int(number), 0).rule, words)
@@ -173,7 +396,7 @@ class Words(unittest.TestCase):
         self.assertEqual(sorted((int(number), name) for number, name in shown), [(int(number), name) for name, number in listed])
 
     def test_other_numbers_have_no_rule(self):
-        for number in (-1, 0, 13):
+        for number in (-1, 0, 14):
             self.assertEqual(Refusal(number, 0).rule, "no refusal has this number")
 
     def test_a_refusal_has_the_words_of_its_rule(self):
@@ -185,6 +408,18 @@ class Words(unittest.TestCase):
 
     def test_the_version_is_the_headers(self):
         self.assertIn(f'\n#define XEMDULBA_VERSION "{xemdulba.__version__}"\n', HEADER)
+
+    def test_the_sizes_of_a_writing_are_the_headers(self):
+        sizes = {
+            "REQUEST": 1,
+            "SHAPE_ROW": xemdulba._SHAPE_ROW.size,
+            "CELL_ROW": xemdulba._CELL_ROW.size,
+            "BLOCK_ROW": xemdulba._BLOCK_ROW.size,
+            "STEP_ROW": xemdulba._STEP_ROW.size,
+            "LONGEST_BOOK": xemdulba.LONGEST_BOOK,
+        }
+        for name, size in sizes.items():
+            self.assertIn(f"\n#define XEMDULBA_{name} {size}\n", HEADER)
 
     def test_the_kit_is_a_line(self):
         self.assertRegex(xemdulba.KIT, r"\A\S[^\n]*\S\Z")
@@ -240,6 +475,7 @@ class Types(unittest.TestCase):
             self.assertEqual(xemdulba.run(book, events).answers, (0, 0, 0, 2))
             self.assertEqual(xemdulba.record(book, 14), Fields(48, 12, 0, 0, 0, 16))
             self.assertEqual(xemdulba.event(events, 6), Fields(80, 0, 0, 0, 0, 8))
+            self.assertEqual(xemdulba.tables(book), TABLES_A)
 
     def test_what_a_subclass_says_of_itself_plays_no_part(self):
         for sort in (FalseBytes, FalseBytearray):
@@ -251,6 +487,7 @@ class Types(unittest.TestCase):
             self.assertEqual(xemdulba.record(book, 25), Fields(70, 0, 1, 0, 0, 28))
             self.assertIsNone(xemdulba.record(book, 28))
             self.assertIsNone(xemdulba.event(events, 8))
+            self.assertEqual(xemdulba.tables(book), TABLES_A)
 
     def test_a_stretch_is_a_part_of_the_lent_book(self):
         book = bytearray(BOOK_A)
@@ -278,6 +515,7 @@ class Types(unittest.TestCase):
             self.assertRaises(TypeError, xemdulba.run, BOOK_A, book)
             self.assertRaises(TypeError, xemdulba.record, book, 0)
             self.assertRaises(TypeError, xemdulba.event, book, 0)
+            self.assertRaises(TypeError, xemdulba.tables, book)
 
     def test_a_block_is_a_number_of_32_bits(self):
         for block in (None, "0", 0.0):

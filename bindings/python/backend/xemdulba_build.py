@@ -122,7 +122,7 @@ def metadata(kit: str) -> str:
     return f"""Metadata-Version: 2.1
 Name: xemdulba
 Version: {version()}
-Summary: Checks a job book before it runs, and runs it: calls of the proved library
+Summary: Checks a job book before it runs, runs it, and writes books from tables: calls of the proved library
 Classifier: Operating System :: POSIX :: Linux
 Classifier: Typing :: Typed
 Requires-Python: >=3.9

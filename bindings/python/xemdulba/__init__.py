@@ -1,4 +1,4 @@
-"""Checks a control job book before it runs, and runs it.
+"""Checks a control job book before it runs, runs it, and writes books from tables.
 
 These are calls of the library that include/xemdulba.h declares. What they answer is proved of the library; the numbers of the
 refusals, and the bytes of books and events, are explained there. Books and events are any contiguous buffers of bytes: bytes,
@@ -7,7 +7,9 @@ bytearrays, memoryviews, arrays, mapped files. The environment variable XEMDULBA
 
 import ctypes
 import enum
+import struct
 import sys
+from collections.abc import Iterable, Iterator
 from typing import TYPE_CHECKING, Any, NamedTuple, Optional, Union
 
 from . import _library
@@ -28,11 +30,21 @@ KIT: Optional[str] = _KIT
 TABLE = 64
 REGISTERS = 8
 
+LONGEST_BOOK = 25_057
+"""The bytes of the longest book that is written."""
+
 _VALUE_SIZE = 6
 _CELL_SIZE = 9
 _JOB_SIZE = 52
 _LONGEST_LIST = 65_536
 _UNANSWERED = 0xFF  # no answer: a run leaves the bytes beyond its events as they were
+
+# The rows of the tables that a book is written from, and which of their fields have four bytes.
+_SHAPE_ROW = struct.Struct("<3B")
+_CELL_ROW = struct.Struct("<3BI")
+_BLOCK_ROW = struct.Struct("<BI")
+_STEP_ROW = struct.Struct("<4BI")
+_NUMBERS = ("number", "steps")
 
 # What the rules say, from refusal 1 on.
 _RULES = (
@@ -49,11 +61,13 @@ _RULES = (
     "the cell table has not exactly 576 bytes, or the job table not exactly 3328",
     "the answer buffer has fewer bytes than the list has events",
     "the block asked for does not exist",
+    "the output buffer is too short",
 )
 
 
 class Refusal(Exception):
-    """Why a call was refused: the number, and the offset of the first record at fault, in the events for 9, else in the book."""
+    """Why a call was refused: the number, and the offset of the first record at fault, in the events for 9, else in the book, also in
+    one that is not written."""
 
     def __init__(self, number: int, place: int):
         super().__init__(number, place)
@@ -62,7 +76,7 @@ class Refusal(Exception):
 
     @property
     def rule(self) -> str:
-        """What the rule of its number says, in words. The library gives no number but 1 to 12."""
+        """What the rule of its number says, in words. The library gives no number but 1 to 13."""
         return _RULES[self.number - 1] if 1 <= self.number <= len(_RULES) else "no refusal has this number"
 
     def __str__(self) -> str:
@@ -137,6 +151,50 @@ class Fields(NamedTuple):
     next: int
 
 
+class ShapeRow(NamedTuple):
+    """A shape: its kind, 16 plain, 17 code or 18 cell, and its fields in their order. Those that the kind does not have are 0."""
+
+    kind: int
+    x: int = 0
+    y: int = 0
+
+
+class CellRow(NamedTuple):
+    """A declared cell: its shape and label, its value's kind, 0 plain, 1 cell or 2 code, and its value's number."""
+
+    shape: int
+    label: int
+    kind: int
+    number: int
+
+
+class BlockRow(NamedTuple):
+    """A block: its bound, and how many steps it has, which are the next so many of the steps."""
+
+    bound: int
+    steps: int
+
+
+class StepRow(NamedTuple):
+    """A step: its kind, 64 to 74, its fields of one byte in their order, and the number of put. What the kind does not have is 0."""
+
+    kind: int
+    x: int = 0
+    y: int = 0
+    z: int = 0
+    number: int = 0
+
+
+class BookTables(NamedTuple):
+    """C and the tables of a book. The steps are those of all blocks, in the order of the blocks."""
+
+    c: int
+    shapes: tuple[ShapeRow, ...]
+    cells: tuple[CellRow, ...]
+    blocks: tuple[BlockRow, ...]
+    steps: tuple[StepRow, ...]
+
+
 class Run(NamedTuple):
     """What a run gives: the cells and jobs in use, and an answer for each event."""
 
@@ -196,6 +254,54 @@ def run(book: Buffer, events: Buffer) -> Run:
     )
 
 
+def write(
+    c: int,
+    shapes: Iterable[tuple[int, int, int]],
+    cells: Iterable[tuple[int, int, int, int]],
+    blocks: Iterable[tuple[int, int]],
+    steps: Iterable[tuple[int, int, int, int, int]],
+) -> bytes:
+    """Writes the book of C and these tables, whose rows are ShapeRow, CellRow, BlockRow and StepRow, or tuples of the same fields.
+    Refused by 1 to 6; the typing rules are not tried. A row of another length, or with a field that does not fit in a byte, or in 32
+    bits where it is a number, raises ValueError."""
+    c = _number(c, "c", 32)
+    packed = (
+        _packed(shapes, "shapes", ShapeRow._fields, _SHAPE_ROW),
+        _packed(cells, "cells", CellRow._fields, _CELL_ROW),
+        _packed(blocks, "blocks", BlockRow._fields, _BLOCK_ROW),
+        _packed(steps, "steps", StepRow._fields, _STEP_ROW),
+    )
+    lent = [argument for table in packed for argument in (table, len(table))]
+    out = _library.space(LONGEST_BOOK)
+    written = _library.library.xemdulba_write(c, *lent, out, len(out))
+    _raise_refusal(written)
+    return bytes(out)[: written.length]
+
+
+def tables(book: Buffer) -> BookTables:
+    """The tables of a book: `write(*tables(book))` has its bytes. Refused by 1 to 6; the book need not be accepted."""
+    lent = _library.lent(book, "book")
+    stretch_range(lent, 0)  # a book that can be read has a block 0, so that this is not refused by 12
+    c = 0
+    shapes: list[ShapeRow] = []
+    cells: list[CellRow] = []
+    blocks: list[BlockRow] = []
+    steps: list[StepRow] = []
+    for kind, x, y, z, number, _ in _records(lent):
+        if kind == 1:
+            c = x
+        elif 16 <= kind <= 18:
+            shapes.append(ShapeRow(kind, x, y))
+        elif kind == 32:
+            cells.append(CellRow(x, y, z, number))
+        elif kind == 48:
+            blocks.append(BlockRow(x, 0))
+        else:
+            blocks[-1] = BlockRow(blocks[-1].bound, blocks[-1].steps + 1)
+            steps.append(StepRow(kind, x, y, z, number))
+    return BookTables(c, tuple(shapes), tuple(cells), tuple(blocks), tuple(steps))
+
+
 def _number(value: int, name: str, bits: int) -> int:
     if not isinstance(value, int):
         raise TypeError(f"{name} must be an int, not {type(value).__name__}")
@@ -213,6 +319,29 @@ def _fields(told: _library.Told) -> Optional[Fields]:
     if told.kind == 0:
         return None
     return Fields(told.kind, told.first, told.second, told.third, told.number, told.next)
+
+
+def _records(lent: bytes) -> Iterator[Fields]:
+    """The records of a lent book from its start, as far as it can be read."""
+    offset = 0
+    while (fields := _fields(_library.library.xemdulba_record(lent, len(lent), offset))) is not None:
+        yield fields
+        offset = fields.next
+
+
+def _packed(table: Iterable[tuple[int, ...]], name: str, fields: tuple[str, ...], layout: struct.Struct) -> bytes:
+    """A table as bytes. What cannot stand in a row is named by its table, its row and its field."""
+    return b"".join(layout.pack(*_row(row, f"{name}[{at}]", fields)) for at, row in enumerate(table))
+
+
+def _row(row: tuple[int, ...], name: str, fields: tuple[str, ...]) -> list[int]:
+    try:
+        values = tuple(row)
+    except TypeError:
+        raise TypeError(f"{name} must be a row, not {type(row).__name__}") from None
+    if len(values) != len(fields):
+        raise ValueError(f"{name} must have {len(fields)} fields ({', '.join(fields)}), not {len(values)}")
+    return [_number(value, f"{name}.{field}", 32 if field in _NUMBERS else 8) for field, value in zip(fields, values)]
 
 
 def _entries(table: ctypes.Array, size: int, count: int) -> list[bytes]:
@@ -237,6 +366,6 @@ def _job(entry: bytes) -> Job:
     return Job(block, position, label, source, registers)
 
 
-def _raise_refusal(answer: Union[_library.Checked, _library.Stretch, _library.Ran]) -> None:
+def _raise_refusal(answer: Union[_library.Checked, _library.Stretch, _library.Ran, _library.Written]) -> None:
     if answer.refusal != 0:
         raise Refusal(answer.refusal, answer.place)

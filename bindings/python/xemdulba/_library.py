@@ -30,6 +30,10 @@ class Ran(ctypes.Structure):
     _fields_ = [(name, ctypes.c_uint32) for name in ("refusal", "place", "cells", "jobs")]
 
 
+class Written(ctypes.Structure):
+    _fields_ = [(name, ctypes.c_uint32) for name in ("refusal", "place", "length")]
+
+
 class Told(ctypes.Structure):
     _fields_ = [
         *((name, ctypes.c_uint32) for name in ("kind", "first", "second", "third", "number")),
@@ -78,6 +82,7 @@ def _load(path: str) -> ctypes.CDLL:
         "xemdulba_record": ([*read, ctypes.c_size_t], Told),
         "xemdulba_event": ([*read, ctypes.c_size_t], Told),
         "xemdulba_run": (read * 2 + written * 3, Ran),
+        "xemdulba_write": ([ctypes.c_uint32, *(read * 4), *written], Written),
     }
     try:
         library = ctypes.CDLL(path)

@@ -1,9 +1,9 @@
-//! Checks a control job book before it runs, and runs it.
+//! Checks a control job book before it runs, runs it, and writes books from tables.
 //!
 //! These are safe calls of the static library that `include/xemdulba.h` declares. What they answer
 //! is proved of the library, for every input: each call returns, a book is accepted exactly when
-//! the typing rules allow it, and a refused run writes nothing. The numbers of the refusals, and
-//! the bytes of books and events, are explained there.
+//! the typing rules allow it, and a call that is refused writes nothing. The numbers of the
+//! refusals, and the bytes of books, events and tables, are explained there.
 //!
 //! ```
 //! // C is 3; a block with no steps.
@@ -22,14 +22,20 @@ mod fields;
 #[allow(unsafe_code)]
 mod library;
 mod records;
+mod rows;
 mod tables;
 mod verdict;
+mod writer;
 
 pub use answer::Answer;
 pub use fields::{event, record, Fields};
 pub use records::{Cell, Job, Kind, Label, Trust, Value, REGISTERS};
+pub use rows::{
+    BlockRow, BookTables, CellRow, ShapeRow, StepRow, BLOCK_ROW, CELL_ROW, SHAPE_ROW, STEP_ROW,
+};
 pub use tables::{Record, Records, Tables, CELLS_SIZE, JOBS_SIZE, TABLE};
 pub use verdict::{Counts, Refusal};
+pub use writer::{tables, write, write_into, LONGEST_BOOK};
 
 use std::ops::Range;
 

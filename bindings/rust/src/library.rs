@@ -35,6 +35,14 @@ pub struct Ran {
     pub jobs: u32,
 }
 
+/// What writing a book gives; refusal 0 where it is written.
+#[repr(C)]
+pub struct Written {
+    pub refusal: u32,
+    pub place: u32,
+    pub length: u32,
+}
+
 /// What stands at an offset; kind 0 where nothing whole does.
 #[repr(C)]
 pub struct Told {
@@ -67,6 +75,20 @@ extern "C" {
         answers: *mut u8,
         answers_length: usize,
     ) -> Ran;
+
+    fn xemdulba_write(
+        c: u32,
+        shapes: *const u8,
+        shapes_length: usize,
+        cells: *const u8,
+        cells_length: usize,
+        blocks: *const u8,
+        blocks_length: usize,
+        steps: *const u8,
+        steps_length: usize,
+        out: *mut u8,
+        out_length: usize,
+    ) -> Written;
 }
 
 pub fn check(book: &[u8]) -> Checked {
@@ -104,6 +126,33 @@ pub fn run(book: &[u8], list: &[u8], cells: &mut [u8], jobs: &mut [u8], answers:
             jobs.len(),
             answers.as_mut_ptr(),
             answers.len(),
+        )
+    }
+}
+
+pub fn write(
+    c: u32,
+    shapes: &[u8],
+    cells: &[u8],
+    blocks: &[u8],
+    steps: &[u8],
+    out: &mut [u8],
+) -> Written {
+    // SAFETY: pointers and lengths are those of slices, and the one that is written to is lent as
+    // `&mut`, so that it overlaps nothing.
+    unsafe {
+        xemdulba_write(
+            c,
+            shapes.as_ptr(),
+            shapes.len(),
+            cells.as_ptr(),
+            cells.len(),
+            blocks.as_ptr(),
+            blocks.len(),
+            steps.as_ptr(),
+            steps.len(),
+            out.as_mut_ptr(),
+            out.len(),
         )
     }
 }

@@ -24,7 +24,8 @@ impl fmt::Display for Counts {
 }
 
 /// Why a call was refused: the number that `include/xemdulba.h` explains, and the offset of the
-/// first record at fault, in the event list for 9 and else in the book.
+/// first record at fault, in the event list for 9 and else in the book, also in one that is not
+/// written.
 #[derive(Clone, Copy, Debug, PartialEq, Eq)]
 pub struct Refusal {
     pub number: u32,
@@ -32,7 +33,7 @@ pub struct Refusal {
 }
 
 /// What the rules say, from refusal 1 on.
-const RULES: [&str; 12] = [
+const RULES: [&str; 13] = [
     "the book is longer than 32768 bytes",
     "a kind is none of the format's, or the book ends inside a record",
     "the first record is missing or not C, a record is out of order, or no block stands",
@@ -47,10 +48,11 @@ const RULES: [&str; 12] = [
     "the cell table has not exactly 576 bytes, or the job table not exactly 3328",
     "the answer buffer has fewer bytes than the list has events",
     "the block asked for does not exist",
+    "the output buffer is too short",
 ];
 
 impl Refusal {
-    /// What the rule of its number says, in words. The library gives no number but 1 to 12.
+    /// What the rule of its number says, in words. The library gives no number but 1 to 13.
     ///
     /// ```
     /// let refusal = xemdulba::check(&[1, 3]).unwrap_err();

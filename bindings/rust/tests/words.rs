@@ -1,6 +1,6 @@
 //! The words, the numbers and the version of `include/xemdulba.h` are the crate's.
 
-use xemdulba::{Refusal, KIT, VERSION};
+use xemdulba::{Refusal, BLOCK_ROW, CELL_ROW, KIT, LONGEST_BOOK, SHAPE_ROW, STEP_ROW, VERSION};
 
 const HEADER: &str = include_str!("../../../include/xemdulba.h");
 
@@ -29,7 +29,7 @@ fn comment_and_number(part: &str) -> (u32, String) {
 #[test]
 fn the_rules_are_the_headers() {
     let rules = header_rules();
-    assert_eq!(rules.len(), 12);
+    assert_eq!(rules.len(), 13);
     for (at, (number, words)) in (1..).zip(rules) {
         assert_eq!((number, rule(number)), (at, words.as_str()));
     }
@@ -41,11 +41,12 @@ fn rules_that_a_reader_knows() {
     assert_eq!(rule(7), "a cell declaration breaks its typing rule");
     assert_eq!(rule(8), "a step breaks its typing rule");
     assert_eq!(rule(12), "the block asked for does not exist");
+    assert_eq!(rule(13), "the output buffer is too short");
 }
 
 #[test]
 fn other_numbers_have_no_rule() {
-    for number in [0, 13, u32::MAX] {
+    for number in [0, 14, u32::MAX] {
         assert_eq!(rule(number), "no refusal has this number");
     }
 }
@@ -54,6 +55,21 @@ fn other_numbers_have_no_rule() {
 fn the_version_is_the_headers() {
     let line = format!("#define XEMDULBA_VERSION \"{VERSION}\"");
     assert!(HEADER.lines().any(|stands| stands == line));
+}
+
+#[test]
+fn the_sizes_of_a_writing_are_the_headers() {
+    for (name, size) in [
+        ("REQUEST", 1),
+        ("SHAPE_ROW", SHAPE_ROW),
+        ("CELL_ROW", CELL_ROW),
+        ("BLOCK_ROW", BLOCK_ROW),
+        ("STEP_ROW", STEP_ROW),
+        ("LONGEST_BOOK", LONGEST_BOOK),
+    ] {
+        let line = format!("#define XEMDULBA_{name} {size}");
+        assert!(HEADER.lines().any(|stands| stands == line), "{line}");
+    }
 }
 
 #[test]

@@ -2,9 +2,13 @@
 --     checked, found         the verdict on a book; a block's stretch
 --     Call, called           a run: what is answered, and what the lent memory holds after the call
 --     fieldsTold             the record or the event at an offset
+--     labelOf                a number as a label
+--     WriteCall, wrote       a book from tables: what is answered, and what the buffer holds
 -- Assumes nothing.
-use Prim.Native.Nat.{ℕ}
+use Prim.Native.Nat.{ℕ, min}
 use mathlib.Core.List.{List}
+use Rattle.labels.specs.declared.Label.{Label}
+use Rattle.labels.specs.Labels.{label}
 use Rattle.book.specs.declared.Refusal.{Refusal}
 use Rattle.book.specs.declared.Refusal.the-variants.{Passed}
 use Rattle.book.specs.declared.Refusal.the-variants as R
@@ -13,10 +17,12 @@ use Rattle.typing.specs.declared.Verdict.{Verdict}
 use Rattle.typing.specs.declared.Verdict.the-variants.{Accepted, Refused}
 use Rattle.interpreter.specs.Run.{Run}
 use Rattle.listing.specs.declared.Fields.{Fields}
+use Rattle.rows.specs.Write.{WriteResult}
 use Rattle.xemdulba.specs.declared.Checked.{Checked}
 use Rattle.xemdulba.specs.declared.Ran.{Ran}
 use Rattle.xemdulba.specs.declared.Stretch.{Stretch}
 use Rattle.xemdulba.specs.declared.Told.{Told}
+use Rattle.xemdulba.specs.declared.Written.{Written}
 
 -- 0 stands for acceptance
 unfoldable pub checked : Verdict → Checked
@@ -63,3 +69,20 @@ fieldsTold f =
       number = f .number;
       next = f .next;
     }
+
+-- what is larger than a byte counts as 255, which is above every label
+unfoldable pub labelOf : ℕ → Label
+labelOf n = label (min n 255)
+
+-- 0 stands for a book that is written
+unfoldable pub writtenBy : Refusal → ℕ → Written
+writtenBy Passed l = record { refusal = 0; place = 0; length = l }
+writtenBy (R.Refused n o) l = record { refusal = n; place = o; length = 0 }
+
+-- the answer, and the buffer after the call
+pub record WriteCall : Type 0 where
+  pub result : Written
+  pub out : List ℕ
+
+unfoldable pub wrote : WriteResult → WriteCall
+wrote w = record { result = writtenBy (w .refusal) (w .length); out = w .out }

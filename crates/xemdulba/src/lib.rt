@@ -1,5 +1,6 @@
 // The library for other languages: include/xemdulba.h declares it.
 use book::Refusal;
+use labels::Label;
 use listing::Fields;
 use typing::Verdict;
 ghost use mathlib.Core.Path.{_≡_};
@@ -7,7 +8,9 @@ ghost use Rattle.book.specs.Stretch.{foundBlock};
 ghost use Rattle.typing.specs.Verdict.{verdict};
 ghost use Rattle.interpreter.specs.Run.{ran};
 ghost use Rattle.listing.specs.Fields.{recordFields, eventFields};
-ghost use Rattle.xemdulba.specs.Calls.{checked, found, Call, called, fieldsTold};
+ghost use Rattle.rows.specs.Rows.{tablesIn};
+ghost use Rattle.rows.specs.Write.{written};
+ghost use Rattle.xemdulba.specs.Calls.{checked, found, Call, called, fieldsTold, labelOf, WriteCall, wrote};
 
 // The verdict on a book: refusal 0 where it is accepted. On a refusal the counts are 0.
 #[repr(C)]
@@ -155,6 +158,61 @@ pub extern "C" fn xemdulba_run(
                 place: 0,
                 cells: held,
                 jobs: begun,
+            }
+        }
+    }
+}
+
+// What writing gives: refusal 0 where the book was written, and its length. On a refusal the length is 0.
+#[repr(C)]
+pub struct Written {
+    pub refusal: u32,
+    pub place: u32,
+    pub length: u32,
+}
+
+// A number as a label: what is larger than a byte counts as 255, which no field allows.
+fn label_of(n: u32) -> Label
+    ensures { λ r. ⌜ r ≡ labelOf n ⌝ }
+{
+    if n < 256 {
+        return Label(n as u8);
+    }
+    Label(255)
+}
+
+// Writes the book of the tables into a buffer. On a refusal nothing is written.
+#[no_mangle]
+pub extern "C" fn xemdulba_write(
+    c: u32,
+    shapes: &[u8],
+    cells: &[u8],
+    blocks: &[u8],
+    steps: &[u8],
+    out: &mut [u8],
+) -> Written
+    ensures { λ r. ⌜ _≡_ {A = WriteCall} (record { result = r; out = now (out .exit) })
+        (wrote (written (tablesIn (labelOf c) (now (shapes .entry)) (now (cells .entry)) (now (blocks .entry)) (now (steps .entry))) (now (out .entry)))) ⌝ }
+{
+    let label = label_of(c);
+    let w = writing::write(label, shapes, cells, blocks, steps, out);
+    let refusal = w.refusal;
+    match refusal {
+        Refusal::Refused { number, place } => {
+            let cause = number as u32;
+            let spot = place as u32;
+            Written {
+                refusal: cause,
+                place: spot,
+                length: 0,
+            }
+        }
+        Refusal::Passed => {
+            let size = w.length as u32;
+            Written {
+                refusal: 0,
+                place: 0,
+                length: size,
             }
         }
     }
