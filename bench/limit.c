@@ -1,6 +1,7 @@
-/* The limit: the check and the run in plain C that works in place, to be timed beside the verified library and the reference. One pass
- * over the book finds whether it can be read and where its parts stand. An event changes the cell and the job that it reaches where
- * they are, and the tables are written once, behind the last event. Nothing is proved of it, and only bench uses it.
+/* The limit: the check, the run and the writer in plain C that works in place, to be timed beside the verified library and the
+ * reference. One pass over the book finds whether it can be read and where its parts stand. An event changes the cell and the job that
+ * it reaches where they are, and the tables are written once, behind the last event. A book is written in a second pass over its rows,
+ * the first having found its length. Nothing is proved of it, and only bench uses it.
  *
  * It serves the bench's inputs, which are not refused. Any refusal has the number 99 and place 0: that one holds is found, but not
  * which, nor where. The answers have the layout of include/xemdulba.h.
@@ -879,4 +880,210 @@ struct xemdulba_ran limit_run(const uint8_t *book, size_t length, const uint8_t 
     store_cells(&machine, cells);
     store_jobs(&machine, jobs);
     return (struct xemdulba_ran){0, 0, machine.cells, machine.jobs};
+}
+
+/* ---- Writing: refusals 1 to 6 of tables, and 13 ---- */
+
+/* The tables, and how many rows each has. */
+struct rows {
+    const uint8_t *shape, *cell, *block, *step;
+    size_t shapes, cells, blocks, steps;
+};
+
+/* The bits that each byte of a step's row may have, from put to exec: those of a register or a label, all of a name or a number, and none
+ * of what is not used. */
+static const uint8_t STEP_BITS[][XEMDULBA_STEP_ROW] = {
+    {255, 7, 0, 0, 255, 255, 255, 255},
+    {255, 7, 255, 0, 0, 0, 0, 0},
+    {255, 7, 255, 0, 0, 0, 0, 0},
+    {255, 7, 7, 7, 0, 0, 0, 0},
+    {255, 7, 255, 7, 0, 0, 0, 0},
+    {255, 7, 7, 0, 0, 0, 0, 0},
+    {255, 7, 7, 0, 0, 0, 0, 0},
+    {255, 7, 15, 0, 0, 0, 0, 0},
+    {255, 15, 0, 0, 0, 0, 0, 0},
+    {255, 255, 0, 0, 0, 0, 0, 0},
+    {255, 7, 0, 0, 0, 0, 0, 0},
+};
+
+static const uint8_t STEP_LENGTHS[] = {6, 3, 3, 4, 4, 3, 3, 3, 2, 2, 2};
+
+static uint64_t eight_bytes(const uint8_t *bytes)
+{
+    uint64_t eight;
+
+    memcpy(&eight, bytes, sizeof eight);
+    return eight;
+}
+
+static int names_cell_shape(const struct rows *rows, uint8_t shape)
+{
+    return shape < rows->shapes && rows->shape[shape * XEMDULBA_SHAPE_ROW] == CELL_SHAPE;
+}
+
+/* This and the next two return the length of the record, or 0 if the row is at fault. */
+static uint32_t shape_length(const uint8_t *row, size_t own)
+{
+    switch (row[0]) {
+    case PLAIN_SHAPE:
+        return (row[1] | row[2]) != 0 ? 0 : 1;
+    case CODE_SHAPE:
+        return row[1] > TOP_LABEL || row[2] != 0 ? 0 : 2;
+    case CELL_SHAPE:
+        return row[1] >= own || row[2] > TOP_LABEL ? 0 : 3;
+    default:
+        return 0;
+    }
+}
+
+static uint32_t cell_length(const struct rows *rows, const uint8_t *row)
+{
+    uint32_t number = number_at(row + 3);
+
+    if (!names_cell_shape(rows, row[0]) || row[1] > TOP_LABEL || row[2] > CODE_VALUE) {
+        return 0;
+    }
+    return (row[2] == CELL_VALUE && number >= rows->cells) || (row[2] == CODE_VALUE && number >= rows->blocks) ? 0 : 8;
+}
+
+static uint32_t step_length(const struct rows *rows, const uint8_t *row)
+{
+    uint32_t kind = row[0] - (uint32_t)PUT;
+
+    if (kind > EXEC - PUT || (eight_bytes(row) & ~eight_bytes(STEP_BITS[kind])) != 0) {
+        return 0;
+    }
+    if ((row[0] == NAME && row[2] >= rows->cells) || (row[0] == CODE && row[2] >= rows->blocks) ||
+        (row[0] == NEW && !names_cell_shape(rows, row[2])) || (row[0] == START && row[1] >= rows->blocks)) {
+        return 0;
+    }
+    return STEP_LENGTHS[kind];
+}
+
+/* The length of the records of the shapes and cells, with C's, or 0 if a row is at fault. */
+static uint32_t declared_length(const struct rows *rows)
+{
+    uint32_t length = 2, span;
+
+    for (size_t own = 0; own < rows->shapes; own++, length += span) {
+        span = shape_length(rows->shape + own * XEMDULBA_SHAPE_ROW, own);
+        if (span == 0) {
+            return 0;
+        }
+    }
+    for (size_t own = 0; own < rows->cells; own++, length += span) {
+        span = cell_length(rows, rows->cell + own * XEMDULBA_CELL_ROW);
+        if (span == 0) {
+            return 0;
+        }
+    }
+    return length;
+}
+
+/* The length of the records of the blocks and steps, or 0 if a row or a count is at fault. */
+static uint32_t counted_length(const struct rows *rows)
+{
+    const uint8_t *step = rows->step, *end = rows->step + rows->steps * XEMDULBA_STEP_ROW;
+    uint32_t length = 0;
+
+    for (size_t own = 0; own < rows->blocks; own++) {
+        const uint8_t *row = rows->block + own * XEMDULBA_BLOCK_ROW;
+        uint32_t count = number_at(row + 1);
+        if (row[0] > TOP_LABEL || count > STEPS || count > (size_t)(end - step) / XEMDULBA_STEP_ROW) {
+            return 0;
+        }
+        length += 2;
+        for (const uint8_t *last = step + count * XEMDULBA_STEP_ROW; step < last; step += XEMDULBA_STEP_ROW) {
+            uint32_t span = step_length(rows, step);
+            if (span == 0) {
+                return 0;
+            }
+            length += span;
+        }
+    }
+    return step == end ? length : 0;
+}
+
+/* Writes the record of a step, and returns the place behind it. */
+static uint8_t *write_step(uint8_t *out, const uint8_t *row)
+{
+    switch (row[0]) {
+    case PUT:
+        memcpy(out, row, 2);
+        memcpy(out + 2, row + 4, 4);
+        return out + 6;
+    case ADD:
+    case NEW:
+        memcpy(out, row, 4);
+        return out + 4;
+    case LOWER:
+    case START:
+    case EXEC:
+        memcpy(out, row, 2);
+        return out + 2;
+    default:
+        memcpy(out, row, 3);
+        return out + 3;
+    }
+}
+
+static uint8_t *write_declared(uint8_t *out, const struct rows *rows)
+{
+    for (size_t own = 0; own < rows->shapes; own++) {
+        const uint8_t *row = rows->shape + own * XEMDULBA_SHAPE_ROW;
+        uint32_t span = row[0] - (uint32_t)PLAIN_SHAPE + 1;
+        memcpy(out, row, span);
+        out += span;
+    }
+    for (size_t own = 0; own < rows->cells; own++) {
+        out[0] = CELL;
+        memcpy(out + 1, rows->cell + own * XEMDULBA_CELL_ROW, XEMDULBA_CELL_ROW);
+        out += 1 + XEMDULBA_CELL_ROW;
+    }
+    return out;
+}
+
+static void write_blocks(uint8_t *out, const struct rows *rows)
+{
+    const uint8_t *step = rows->step;
+
+    for (size_t own = 0; own < rows->blocks; own++) {
+        const uint8_t *row = rows->block + own * XEMDULBA_BLOCK_ROW;
+        const uint8_t *last = step + number_at(row + 1) * XEMDULBA_STEP_ROW;
+        out[0] = BLOCK;
+        out[1] = row[0];
+        out += 2;
+        for (; step < last; step += XEMDULBA_STEP_ROW) {
+            out = write_step(out, step);
+        }
+    }
+}
+
+struct xemdulba_written limit_write(uint32_t c, const uint8_t *shapes, size_t shapes_length, const uint8_t *cells, size_t cells_length,
+                                    const uint8_t *blocks, size_t blocks_length, const uint8_t *steps, size_t steps_length,
+                                    uint8_t *out, size_t out_length)
+{
+    const struct xemdulba_written refused = {REFUSED, 0, 0};
+    const struct rows rows = {
+        shapes,
+        cells,
+        blocks,
+        steps,
+        shapes_length / XEMDULBA_SHAPE_ROW,
+        cells_length / XEMDULBA_CELL_ROW,
+        blocks_length / XEMDULBA_BLOCK_ROW,
+        steps_length / XEMDULBA_STEP_ROW,
+    };
+
+    if (c >= TOP_LABEL || rows.shapes > SHAPES || rows.cells > CELLS || rows.blocks == 0 || rows.blocks > BLOCKS) {
+        return refused;
+    }
+    uint32_t declared = declared_length(&rows), behind = counted_length(&rows);
+    if (declared == 0 || behind == 0 || declared + behind > out_length) {
+        return refused;
+    }
+    out[0] = C;
+    out[1] = (uint8_t)c;
+    write_blocks(write_declared(out + 2, &rows), &rows);
+    return (struct xemdulba_written){0, 0, declared + behind};
 }

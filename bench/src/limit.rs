@@ -2,6 +2,7 @@
 
 use reference::model::book::Refusal;
 use reference::model::machine::{Lent, Outcome, Ran};
+use reference::model::writer::Tables;
 use reference::Verdict;
 
 /// As `xemdulba_checked` of include/xemdulba.h; refusal 0 is acceptance.
@@ -24,6 +25,14 @@ struct CRan {
     jobs: u32,
 }
 
+/// As `xemdulba_written` of include/xemdulba.h; refusal 0 where it is written.
+#[repr(C)]
+struct CWritten {
+    refusal: u32,
+    place: u32,
+    length: u32,
+}
+
 extern "C" {
     fn limit_check(book: *const u8, length: usize) -> CChecked;
 
@@ -39,6 +48,20 @@ extern "C" {
         answers: *mut u8,
         answers_length: usize,
     ) -> CRan;
+
+    fn limit_write(
+        c: u32,
+        shapes: *const u8,
+        shapes_length: usize,
+        cells: *const u8,
+        cells_length: usize,
+        blocks: *const u8,
+        blocks_length: usize,
+        steps: *const u8,
+        steps_length: usize,
+        out: *mut u8,
+        out_length: usize,
+    ) -> CWritten;
 }
 
 /// All that is refused is refused by 99 at place 0.
@@ -81,6 +104,29 @@ pub fn run(book: &[u8], events: &[u8], [cells, jobs, answers]: &mut Lent) -> Out
     })
 }
 
+/// A `writer::Writer`. All that is refused is refused by 99 at place 0.
+pub fn write(tables: &Tables, out: &mut [u8]) -> Result<usize, Refusal> {
+    // SAFETY: pointers and lengths are those of slices, and the one that is written to is lent as
+    // `&mut`, so that it overlaps nothing.
+    let written = unsafe {
+        limit_write(
+            tables.c,
+            tables.shapes.as_ptr(),
+            tables.shapes.len(),
+            tables.cells.as_ptr(),
+            tables.cells.len(),
+            tables.blocks.as_ptr(),
+            tables.blocks.len(),
+            tables.steps.as_ptr(),
+            tables.steps.len(),
+            out.as_mut_ptr(),
+            out.len(),
+        )
+    };
+    stated(written.refusal, written.place)?;
+    Ok(written.length as usize)
+}
+
 fn stated(refusal: u32, place: u32) -> Result<(), Refusal> {
     if refusal == 0 {
         return Ok(());
@@ -94,8 +140,10 @@ fn stated(refusal: u32, place: u32) -> Result<(), Refusal> {
 #[cfg(test)]
 mod tests {
     use super::*;
-    use reference::cases::differ::{books, differ};
+    use reference::cases::differ::{books, differ, tables};
+    use reference::cases::writes::{chosen, outcome};
     use reference::model::machine::fast;
+    use reference::model::writer;
 
     const REFUSED: Refusal = Refusal {
         number: 99,
@@ -126,5 +174,16 @@ mod tests {
     #[test]
     fn runs_do_not_differ() {
         assert!(differ(1, 20_000, run, expected_run, |_| {}).is_none());
+    }
+
+    fn expected_write(tables: &Tables, out: &mut [u8]) -> Result<usize, Refusal> {
+        writer::write(tables, out).map_err(|_| REFUSED)
+    }
+
+    #[test]
+    fn writings_do_not_differ() {
+        for case in chosen().into_iter().chain(tables(1).take(20_000)) {
+            assert_eq!(outcome(write, &case), outcome(expected_write, &case));
+        }
     }
 }

@@ -1,9 +1,9 @@
-//! Times the verified check and run beside the reference's and the limit's, on the same inputs in the
-//! same run. All are release builds. A last table has the stack that the verified calls use, and the
-//! last line the largest ratio of a verified call to the reference's.
+//! Times the verified check, run and writer beside the reference's and the limit's, on the same
+//! inputs in the same run. All are release builds. A last table has the stack that the verified calls
+//! use, and the last line the largest ratio of a verified call to the reference's.
 //!
-//! `bench --once check|run ROW SIDE` makes a few calls for a program that counts instructions, and
-//! `bench --rows` prints which rows there are: see bench/instructions.
+//! `bench --once check|run|write ROW SIDE` makes a few calls for a program that counts instructions,
+//! and `bench --rows` prints which rows there are: see bench/instructions.
 
 mod checks;
 mod limit;
@@ -12,6 +12,7 @@ mod runs;
 mod sides;
 mod stack;
 mod timing;
+mod writes;
 
 use std::env;
 use std::process::ExitCode;
@@ -26,7 +27,9 @@ fn main() -> ExitCode {
         ["--rows"] => once::list(),
         ["--once", kind, row, side] if once::once(kind, row, side).is_some() => {}
         _ => {
-            eprintln!("usage: bench [--rows | --once check|run ROW verified|reference|limit]");
+            eprintln!(
+                "usage: bench [--rows | --once check|run|write ROW verified|reference|limit]"
+            );
             return ExitCode::from(2);
         }
     }
@@ -38,7 +41,9 @@ fn print_tables() {
     println!();
     let runs = runs::time();
     println!();
+    let writes = writes::time();
+    println!();
     stack::measure();
     println!();
-    println!("worst ratio {:.2}", checks.max(runs));
+    println!("worst ratio {:.2}", checks.max(runs).max(writes));
 }

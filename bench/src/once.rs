@@ -1,7 +1,7 @@
 //! A few calls of one side on one row, for a program that counts their instructions.
 
-use crate::sides::{CHECKERS, RUNNERS, SIDES};
-use crate::{checks, runs};
+use crate::sides::{CHECKERS, RUNNERS, SIDES, WRITERS};
+use crate::{checks, runs, writes};
 
 /// How many calls `measured` makes.
 const CALLS: usize = 10;
@@ -16,6 +16,9 @@ pub fn list() {
     }
     for (name, _) in runs::ROWS {
         println!("run {name}");
+    }
+    for (name, _) in writes::ROWS {
+        println!("write {name}");
     }
 }
 
@@ -33,6 +36,12 @@ pub fn once(kind: &str, row: &str, side: &str) -> Option<()> {
             let run = named(&runs::ROWS, row)?();
             warm_up_and_measure(runs::call(RUNNERS[side], &run));
             print_units("event", runs::count(&run));
+        }
+        "write" => {
+            let book = named(&writes::ROWS, row)?();
+            let tables = writes::tables(&book);
+            warm_up_and_measure(writes::call(WRITERS[side], &tables, book.len()));
+            print_units("byte", book.len());
         }
         _ => return None,
     }

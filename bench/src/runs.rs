@@ -16,7 +16,7 @@ const BOOK_A2: &[u8] = include_bytes!("../../books/a2.book");
 /// of trust 9, and a fourth cell is scratch, of trust 2. Block 0 reads vol and rate, adds both and a
 /// constant, writes the hedge, lowers itself to 2, and starts block 1, of bound 2, which writes the
 /// scratch cell.
-const OPTION_BOOK: &[u8] = include_bytes!("../option.book");
+pub const OPTION_BOOK: &[u8] = include_bytes!("../option.book");
 
 /// The scratch cell's number.
 const SCRATCH: u8 = 3;

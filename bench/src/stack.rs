@@ -5,6 +5,7 @@
 mod thread;
 
 use crate::runs::{mixed, steps, LONGEST_ROUNDS, MOST_STEPS};
+use crate::writes::{call, tables};
 use crate::BOOK_A;
 use reference::cases::runs::Run;
 use reference::{full_book, mixed_book};
@@ -20,6 +21,8 @@ pub fn measure() {
     measure_run("A1", &steps(BOOK_A, MOST_STEPS));
     measure_run("mixed", &mixed(LONGEST_ROUNDS));
     measure_run("full_book", &steps(&full_book(), MOST_STEPS));
+    measure_write("A1", BOOK_A);
+    measure_write("full_book", &full_book());
 }
 
 fn measure_check(name: &str, book: &[u8]) {
@@ -37,4 +40,10 @@ fn measure_run(name: &str, run: &Run) {
         black_box(&outcome).as_ref().expect("it runs");
     });
     println!("run    {name:<12}{:>8}{used:>14}", lent[2].len());
+}
+
+fn measure_write(name: &str, book: &[u8]) {
+    let tables = tables(book);
+    let used = stack_used(&mut call(verified::write, &tables, book.len()));
+    println!("write  {name:<12}{:>8}{used:>14}", "");
 }

@@ -1,9 +1,10 @@
-//! The reference's own test books and runs, all of them.
+//! The reference's own test books, runs and tables, all of them.
 
-use crate::compare::{different_run, hex, Checker, Difference, Tally, ASKED_BLOCKS};
-use reference::cases::{check_books, generate, runs};
-use reference::model::book::record;
+use crate::compare::{self, different_run, hex, Checker, Difference, Tally, ASKED_BLOCKS};
+use reference::cases::{check_books, generate, runs, writes};
+use reference::model::book::{self, record};
 use reference::model::machine::{event, Runner};
+use reference::model::writer::{tables_of, Writer};
 use std::fmt::Debug;
 
 /// Compares every test book: its verdict, the stretch of each block and of two that never exist,
@@ -37,6 +38,25 @@ pub fn runs(one: Runner, other: Runner) -> Result<Tally, Difference> {
         tally.count_run(&one);
     }
     Ok(tally)
+}
+
+/// Compares all test tables, and those of every test book.
+pub fn tables(one: Writer, other: Writer) -> Result<Tally, Difference> {
+    let all = writes::chosen().into_iter().chain(writes::of_books());
+    compare::writes(all, one, other)
+}
+
+/// Every test book that can be read is taken apart as the reference does, and is the same when it
+/// is written again. How many those are.
+pub fn written_again() -> Result<usize, Difference> {
+    let mut count = 0;
+    for book in generate::books().iter().chain(&check_books::books()) {
+        let read = book::read(book).map(|_| book.clone());
+        count += usize::from(read.is_ok());
+        same(book, "tables", verified::tables_of(book), tables_of(book))?;
+        same(book, "written again", verified::written_again(book), read)?;
+    }
+    Ok(count)
 }
 
 /// Every offset, and the first two past the end.

@@ -2,8 +2,10 @@
 
 use reference::cases::differ;
 use reference::cases::runs::Run;
+use reference::cases::writes::{self, Write, Written};
 use reference::model::book::Refusal;
 use reference::model::machine::{Lent, Outcome, Runner};
+use reference::model::writer::Writer;
 use reference::Verdict;
 use std::fmt;
 
@@ -11,7 +13,7 @@ use std::fmt;
 /// many events were answered by each of 0 to 3.
 #[derive(Default)]
 pub struct Tally {
-    refusals: [usize; 13],
+    refusals: [usize; 14],
     answers: [usize; 4],
 }
 
@@ -31,6 +33,11 @@ impl Tally {
         let refusal = outcome.as_ref().err();
         self.count_refusal(refusal.map_or(0, |refusal| refusal.number));
         self.count_answers(answers);
+    }
+
+    pub fn count_write(&mut self, (written, _): &Written) {
+        let refusal = written.as_ref().err();
+        self.count_refusal(refusal.map_or(0, |refusal| refusal.number));
     }
 
     /// How many were compared.
@@ -105,6 +112,46 @@ pub fn books(seed: u64, count: usize, one: Checker, other: Checker) -> Result<Ta
         tally.count_verdict(&one.0);
     }
     Ok(tally)
+}
+
+/// Compares so many tables by chance.
+pub fn tables(seed: u64, count: usize, one: Writer, other: Writer) -> Result<Tally, Difference> {
+    writes(differ::tables(seed).take(count), one, other)
+}
+
+/// Compares what each writer gives for these, and all of the buffer.
+pub fn writes(
+    all: impl Iterator<Item = Write>,
+    one: Writer,
+    other: Writer,
+) -> Result<Tally, Difference> {
+    let mut tally = Tally::default();
+    for (number, write) in all.enumerate() {
+        let (one, other) = (writes::outcome(one, &write), writes::outcome(other, &write));
+        if one != other {
+            return Err(different_write(number, &write, &one, &other));
+        }
+        tally.count_write(&one);
+    }
+    Ok(tally)
+}
+
+/// Tables that two write otherwise, in words.
+fn different_write(number: usize, write: &Write, one: &Written, other: &Written) -> Difference {
+    let tables = &write.tables;
+    let written = |(written, out): &Written| format!("{written:?}\n  out {}", hex(out));
+    Difference(format!(
+        "number {number}\nc {}\nshapes {}\ncells {}\nblocks {}\nsteps {}\nlength {}\n\
+         one {}\nother {}",
+        tables.c,
+        hex(&tables.shapes),
+        hex(&tables.cells),
+        hex(&tables.blocks),
+        hex(&tables.steps),
+        write.length,
+        written(one),
+        written(other)
+    ))
 }
 
 /// A run that two answer otherwise, in words.

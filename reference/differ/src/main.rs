@@ -1,6 +1,6 @@
 //! `differ [COUNT [SEED]]`: compares the verified library with the reference, through its C
-//! interface, on so many runs and so many books by chance. Exit status: 0 no difference, 1 a
-//! difference, which is printed, 2 no answer.
+//! interface, on so many runs, so many books and so many tables by chance. Exit status: 0 no
+//! difference, 1 a difference, which is printed, 2 no answer.
 
 #[cfg(test)]
 mod chosen;
@@ -9,7 +9,7 @@ mod compare;
 mod tests;
 
 use compare::{Checked, Difference, Tally};
-use reference::model::{book, machine};
+use reference::model::{book, machine, writer};
 use std::process::ExitCode;
 use std::time::Instant;
 
@@ -24,9 +24,13 @@ fn main() -> ExitCode {
     let same_runs = report(&format!("{count} runs"), || {
         compare::runs(seed, count, verified::run, machine::run)
     });
-    let same = same_runs
+    let same_books = same_runs
         && report(&format!("{count} books"), || {
             compare::books(seed, count, verified_checks, reference_checks)
+        });
+    let same = same_books
+        && report(&format!("{count} tables"), || {
+            compare::tables(seed, count, verified::write_exported, writer::write)
         });
     ExitCode::from(u8::from(!same))
 }

@@ -1,10 +1,12 @@
-//! The test books and runs give no difference. A difference is found, and written out.
+//! The test books, runs and tables give no difference. A difference is found, and written out.
 
 use crate::chosen;
 use crate::compare::{self, Checked, Difference};
 use crate::{reference_checks, verified_checks};
 use reference::cases::differ::forgetful;
+use reference::model::book::Refusal;
 use reference::model::machine;
+use reference::model::writer::{self, Tables};
 use reference::Verdict;
 
 /// A check that accepts nothing.
@@ -15,6 +17,15 @@ fn stern(book: &[u8], block: usize) -> Checked {
         place: 0,
     };
     (verdict, stretch)
+}
+
+/// A writer that writes one byte beyond the book, where there is room.
+fn careless(tables: &Tables, out: &mut [u8]) -> Result<usize, Refusal> {
+    let length = writer::write(tables, out)?;
+    if let Some(beyond) = out.get_mut(length) {
+        *beyond = 0;
+    }
+    Ok(length)
 }
 
 fn lines(outcome: Result<compare::Tally, Difference>) -> Vec<String> {
@@ -46,10 +57,24 @@ fn a_different_book_is_written_out() {
 }
 
 #[test]
+fn different_tables_are_written_out() {
+    let lines = lines(compare::tables(1, 50, verified::write, careless));
+    let names = lines
+        .iter()
+        .filter_map(|line| line.split(' ').find(|word| !word.is_empty()));
+    let expected = [
+        "number", "c", "shapes", "cells", "blocks", "steps", "length", "one", "out", "other", "out",
+    ];
+    assert_eq!(names.collect::<Vec<_>>(), expected);
+}
+
+#[test]
 fn a_few_do_not_differ() {
     assert!(compare::runs(7, 2_000, verified::run, machine::run).is_ok());
     let books = compare::books(7, 2_000, verified_checks, reference_checks);
     assert!(books.is_ok_and(|tally| tally.to_string().contains(" not refused, ")));
+    let tables = compare::tables(7, 5_000, verified::write_exported, writer::write);
+    assert!(tables.is_ok_and(|tally| tally.to_string().contains(" by 13")));
 }
 
 #[test]
@@ -66,8 +91,28 @@ fn the_test_runs_do_not_differ() {
     assert_eq!(tally.count(), 7_779);
 }
 
+/// By both ways to call the writer.
+#[test]
+fn the_test_tables_do_not_differ() {
+    for verified in [verified::write, verified::write_exported] {
+        let tally = chosen::tables(verified, writer::write).map_err(|found| found.0);
+        let tally = tally.expect("verified (one) and reference (other) differ");
+        assert_eq!(tally.count(), 8_015 + 3 * 13_882);
+    }
+}
+
+#[test]
+fn the_test_books_are_written_again() {
+    let count = chosen::written_again().map_err(|found| found.0);
+    assert_eq!(
+        count.expect("verified (one) and reference (other) differ"),
+        13_882
+    );
+}
+
 #[test]
 fn a_different_test_book_and_run_are_written_out() {
     assert_eq!(lines(chosen::books(verified_checks, stern)).len(), 4);
     assert_eq!(lines(chosen::runs(verified::run, forgetful)).len(), 12);
+    assert_eq!(lines(chosen::tables(verified::write, careless)).len(), 11);
 }
