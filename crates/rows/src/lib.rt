@@ -10,8 +10,17 @@ ghost use mathlib.Core.List.{_∷_};
 ghost use Rattle.book.specs.Records.{numberBytes};
 ghost use Rattle.rows.specs.Parsed.{shapeRowOf, cellRowOf, stepRowOf, shapeRowBytes, cellRowBytes, stepRowBytes};
 
+// The bytes of a row of each table.
+pub const SHAPE_ROW: usize = 3;
+
+pub const CELL_ROW: usize = 7;
+
+pub const BLOCK_ROW: usize = 5;
+
+pub const STEP_ROW: usize = 8;
+
 // The row of a shape.
-pub fn shape_row(x: Shape) -> [u8; 3]
+pub fn shape_row(x: Shape) -> [u8; SHAPE_ROW]
     ensures { λ r. ⌜ r ≡ shapeRowBytes (shapeRowOf x) ⌝ }
 {
     if x.kind == kind::CODE_SHAPE {
@@ -23,7 +32,7 @@ pub fn shape_row(x: Shape) -> [u8; 3]
     [kind::PLAIN_SHAPE, 0, 0]
 }
 
-fn cell_bytes(shape: u8, label: u8, kind: u8, n: u32) -> [u8; 7]
+fn cell_bytes(shape: u8, label: u8, kind: u8, n: u32) -> [u8; CELL_ROW]
     ensures { λ r. ⌜ r ≡ shape ∷ label ∷ kind ∷ numberBytes n ⌝ }
 {
     [
@@ -38,7 +47,7 @@ fn cell_bytes(shape: u8, label: u8, kind: u8, n: u32) -> [u8; 7]
 }
 
 // The row of a declared cell.
-pub fn cell_row(d: Declared) -> [u8; 7]
+pub fn cell_row(d: Declared) -> [u8; CELL_ROW]
     ensures { λ r. ⌜ r ≡ cellRowBytes (cellRowOf d) ⌝ }
 {
     let value = d.value;
@@ -51,7 +60,7 @@ pub fn cell_row(d: Declared) -> [u8; 7]
     }
 }
 
-fn step_bytes(kind: u8, x: u8, y: u8, z: u8, n: u32) -> [u8; 8]
+fn step_bytes(kind: u8, x: u8, y: u8, z: u8, n: u32) -> [u8; STEP_ROW]
     ensures { λ r. ⌜ r ≡ kind ∷ x ∷ y ∷ z ∷ numberBytes n ⌝ }
 {
     [
@@ -67,7 +76,7 @@ fn step_bytes(kind: u8, x: u8, y: u8, z: u8, n: u32) -> [u8; 8]
 }
 
 // The row of a step.
-pub fn step_row(p: Step) -> [u8; 8]
+pub fn step_row(p: Step) -> [u8; STEP_ROW]
     ensures { λ r. ⌜ r ≡ stepRowBytes (stepRowOf p) ⌝ }
 {
     match p {

@@ -11,8 +11,8 @@ ghost use Rattle.vetting.specs.Asked.{SoundTables, CellShape, ShapeSound
 fn is_cell_shape(shapes: &[u8], i: u8) -> bool
     ensures { λ r. ⌜ (r ≡ true → CellShape (shapeRowsIn (now (shapes .entry))) i) ⌝ }
 {
-    let o = (i as usize) * 3;
-    if o + 3 <= shapes.len() {
+    let o = (i as usize) * rows::SHAPE_ROW;
+    if o + rows::SHAPE_ROW <= shapes.len() {
         return shapes[o] == kind::CELL_SHAPE;
     }
     false
@@ -36,13 +36,13 @@ fn is_shape_sound(i: usize, k: u8, x: u8, y: u8) -> bool
 fn are_shapes_sound(shapes: &[u8]) -> bool
     ensures { λ r. ⌜ (r ≡ true → ShapesSound (shapeRowsIn (now (shapes .entry)))) ⌝ }
 {
-    let n = shapes.len() / 3;
+    let n = shapes.len() / rows::SHAPE_ROW;
     if 32 < n {
         return false;
     }
     let mut i: usize = 0;
     while i < n {
-        let o = i * 3;
+        let o = i * rows::SHAPE_ROW;
         let ok = is_shape_sound(i, shapes[o], shapes[o + 1], shapes[o + 2]);
         if ok {
             i = i + 1;
@@ -71,13 +71,13 @@ fn is_value_sound(k: u8, n: u32, cells: usize, blocks: usize) -> bool
 fn are_cells_sound(cells: &[u8], shapes: &[u8], blocks: usize) -> bool
     ensures { λ r. ⌜ (r ≡ true → CellsSound (cellRowsIn (now (cells .entry))) (shapeRowsIn (now (shapes .entry))) blocks) ⌝ }
 {
-    let n = cells.len() / 7;
+    let n = cells.len() / rows::CELL_ROW;
     if 32 < n {
         return false;
     }
     let mut i: usize = 0;
     while i < n {
-        let o = i * 7;
+        let o = i * rows::CELL_ROW;
         if limit::LABEL < cells[o + 1] {
             return false;
         }
@@ -100,7 +100,7 @@ fn are_cells_sound(cells: &[u8], shapes: &[u8], blocks: usize) -> bool
 fn are_blocks_sound(blocks: &[u8], steps: usize) -> bool
     ensures { λ r. ⌜ (r ≡ true → BlocksSound (blockRowsIn (now (blocks .entry))) steps) ⌝ }
 {
-    let n = blocks.len() / 5;
+    let n = blocks.len() / rows::BLOCK_ROW;
     if n == 0 {
         return false;
     }
@@ -110,7 +110,7 @@ fn are_blocks_sound(blocks: &[u8], steps: usize) -> bool
     let mut left = steps;
     let mut i: usize = 0;
     while i < n {
-        let o = i * 5;
+        let o = i * rows::BLOCK_ROW;
         let count = records::number(blocks, o + 1);
         let count = count as usize;
         if limit::LABEL < blocks[o] {
@@ -152,10 +152,10 @@ fn is_step_sound(k: u8, x: u8, y: u8, z: u8, shapes: &[u8], cells: usize, blocks
 fn are_steps_sound(steps: &[u8], shapes: &[u8], cells: usize, blocks: usize) -> bool
     ensures { λ r. ⌜ (r ≡ true → StepsSound (stepRowsIn (now (steps .entry))) (shapeRowsIn (now (shapes .entry))) cells blocks) ⌝ }
 {
-    let n = steps.len() / 8;
+    let n = steps.len() / rows::STEP_ROW;
     let mut i: usize = 0;
     while i < n {
-        let o = i * 8;
+        let o = i * rows::STEP_ROW;
         let ok = is_step_sound(
             steps[o],
             steps[o + 1],
@@ -181,13 +181,13 @@ pub fn are_sound(c: Label, shapes: &[u8], cells: &[u8], blocks: &[u8], steps: &[
     if limit::C < c.0 {
         return false;
     }
-    let n = cells.len() / 7;
-    let m = blocks.len() / 5;
+    let n = cells.len() / rows::CELL_ROW;
+    let m = blocks.len() / rows::BLOCK_ROW;
     let shaped = are_shapes_sound(shapes);
     if shaped {
         let declared = are_cells_sound(cells, shapes, m);
         if declared {
-            let counted = are_blocks_sound(blocks, steps.len() / 8);
+            let counted = are_blocks_sound(blocks, steps.len() / rows::STEP_ROW);
             if counted {
                 return are_steps_sound(steps, shapes, n, m);
             }

@@ -7,11 +7,11 @@ ghost use Rattle.rows.specs.Rows.{blockRowsIn, total};
 pub fn agree(blocks: &[u8], steps: usize) -> bool
     ensures { λ r. ⌜ r ≡ eqb (total (blockRowsIn (now (blocks .entry)))) steps ⌝ }
 {
-    let n = blocks.len() / 5;
+    let n = blocks.len() / rows::BLOCK_ROW;
     let mut left = steps;
     let mut i: usize = 0;
     while i < n {
-        let count = records::number(blocks, i * 5 + 1);
+        let count = records::number(blocks, i * rows::BLOCK_ROW + 1);
         let count = count as usize;
         if left < count {
             return false;

@@ -69,7 +69,7 @@ fn lay_shapes(draft: &mut [u8], start: Pen, shapes: &[u8]) -> Pen
     requires { ⌜ 8 ≤ length (now draft) ⌝ }
     ensures { λ r. ⌜ Lays (shapesLaid (now (shapes .entry)) (length (now (shapes .entry)) / 3) 0) (now (draft .entry)) start (now (draft .exit)) r ⌝ }
 {
-    let n = shapes.len() / 3;
+    let n = shapes.len() / rows::SHAPE_ROW;
     let limit = draft.len() - 8;
     let mut pen = start;
     let mut i: usize = 0;
@@ -77,7 +77,7 @@ fn lay_shapes(draft: &mut [u8], start: Pen, shapes: &[u8]) -> Pen
         if limit < pen.at {
             return pen;
         }
-        let e = entries::shape_entry(shapes, i * 3);
+        let e = entries::shape_entry(shapes, i * rows::SHAPE_ROW);
         pen = lay(draft, pen, e);
         i = i + 1;
     }
@@ -88,7 +88,7 @@ fn lay_cells(draft: &mut [u8], start: Pen, cells: &[u8]) -> Pen
     requires { ⌜ 8 ≤ length (now draft) ⌝ }
     ensures { λ r. ⌜ Lays (cellsLaid (now (cells .entry)) (length (now (cells .entry)) / 7) 0) (now (draft .entry)) start (now (draft .exit)) r ⌝ }
 {
-    let n = cells.len() / 7;
+    let n = cells.len() / rows::CELL_ROW;
     let limit = draft.len() - 8;
     let mut pen = start;
     let mut i: usize = 0;
@@ -96,7 +96,7 @@ fn lay_cells(draft: &mut [u8], start: Pen, cells: &[u8]) -> Pen
         if limit < pen.at {
             return pen;
         }
-        let e = entries::cell_entry(cells, i * 7);
+        let e = entries::cell_entry(cells, i * rows::CELL_ROW);
         pen = lay(draft, pen, e);
         i = i + 1;
     }
@@ -115,7 +115,7 @@ fn lay_steps(draft: &mut [u8], start: Pen, steps: &[u8], from: usize, end: usize
         if limit < pen.at {
             return pen;
         }
-        let o = i * 8;
+        let o = i * rows::STEP_ROW;
         let k = steps[o];
         if k == kind::PUT {
             let e = entries::put_entry(steps, o);
@@ -154,8 +154,8 @@ fn lay_blocks(draft: &mut [u8], start: Pen, blocks: &[u8], steps: &[u8]) -> Pen
     ensures { λ r. ⌜ Lays (blocksLaid (now (blocks .entry)) (now (steps .entry)) (length (now (blocks .entry)) / 5) 0 (length (now (steps .entry)) / 8) 0)
         (now (draft .entry)) start (now (draft .exit)) r ⌝ }
 {
-    let n = blocks.len() / 5;
-    let m = steps.len() / 8;
+    let n = blocks.len() / rows::BLOCK_ROW;
+    let m = steps.len() / rows::STEP_ROW;
     let limit = draft.len() - 8;
     let mut pen = start;
     let mut i: usize = 0;
@@ -164,7 +164,7 @@ fn lay_blocks(draft: &mut [u8], start: Pen, blocks: &[u8], steps: &[u8]) -> Pen
         if limit < pen.at {
             return pen;
         }
-        let o = i * 5;
+        let o = i * rows::BLOCK_ROW;
         let bound = blocks[o];
         let count = records::number(blocks, o + 1);
         let end = j + counted(count, m - j);

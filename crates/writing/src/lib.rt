@@ -104,7 +104,7 @@ fn refusal_of(
     if vetting::are_sound(c, shapes, cells, blocks, steps) {
         return with_spare(Refusal::Passed, spare);
     }
-    let agree = counts::agree(blocks, steps.len() / 8);
+    let agree = counts::agree(blocks, steps.len() / rows::STEP_ROW);
     if agree {
         let strange = pen.strange;
         if let Fault::At(o) = strange {
