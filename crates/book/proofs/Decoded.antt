@@ -1,5 +1,6 @@
 -- Laws of decoding: what the code makes of the bytes is what stands there.
 --     shapes, values, steps      one set for each
+--     number-is                  the number of a value by kind and number
 --     found, found-steps         the step or the declared cell at an offset, if one stands there
 -- Assumes nothing.
 use mathlib.Core.Path.{_≡_, refl, sym, _∙_}
@@ -7,7 +8,7 @@ use mathlib.Core.Bool.{Bool, true, false}
 use mathlib.Core.List.{List}
 use Prim.Native.Nat.{ℕ, _+_, _-_, _≤_, _<_}
 use native.Mathlib.Omega.{arith}
-use lib.Dec.{ltb}
+use lib.Dec.{ltb, eqb}
 use lib.ListN.{length}
 use borrow.Author.Tests.{eq-eqb, ne-eqb, lt-ltb, le-ltb, ltb-true, eqb-true}
 use Rattle.labels.proofs.Impossible.{impossible}
@@ -23,7 +24,7 @@ use Rattle.book.specs.declared.CellAt.the-variants.{NoCell, CellThere}
 use Rattle.book.specs.Control.{both}
 use Rattle.book.specs.Kinds.{span, group}
 use Rattle.book.specs.Records.{byteAt, numberAt, next, cut, inGroup}
-use Rattle.book.specs.Book.{shapeAt, valueOf, declaredAt, stepAt}
+use Rattle.book.specs.Book.{shapeAt, valueOf, numberOf, declaredAt, stepAt}
 use Rattle.book.specs.Stretch.{stands, stepFound, stepEnd, cellFound}
 use Rattle.book.proofs.Groups.{is-step, group-span}
 use Rattle.book.proofs.Spans.{cut-body, uncut, uncut-span, uncut-inside}
@@ -60,6 +61,16 @@ module _ (k n : ℕ) where
   is-code-name a b = simp (ne-eqb _ _ a, ne-eqb _ _ b)
 
 pub ruleset values = (is-plain, is-cell-name, is-code-name)
+
+-- the number of a value, whatever its kind
+pub number-is : (k n : ℕ) → numberOf (valueOf k n) ≡ n
+unfolding valueOf
+number-is k n = go (eqb k 0) refl (eqb k 1) refl
+  where
+    go : (a : Bool) → eqb k 0 ≡ a → (b : Bool) → eqb k 1 ≡ b → numberOf (valueOf k n) ≡ n
+    go true p b q = simp (valueOf, p) refl
+    go false p true q = simp (valueOf, p, q) refl
+    go false p false q = simp (valueOf, p, q) refl
 
 pub is-declared : (s : List ℕ) (o x l k n : ℕ) (v : Value) → x ≡ byteAt s (o + 1) → l ≡ byteAt s (o + 2) → k ≡ byteAt s (o + 3)
     → n ≡ numberAt s (o + 4) → v ≡ valueOf k n → record { shape = x; label = label l; value = v } ≡ declaredAt s o

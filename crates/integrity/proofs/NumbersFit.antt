@@ -17,7 +17,8 @@ use Rattle.machine.specs.States.{Traced}
 use Rattle.machine.specs.Steps.{sum}
 use Rattle.machine.specs.Events.{tableSize, launchLabel}
 use Rattle.machine.specs.Records.{numberOf, valueRecord, cellRecord, jobRecord, ValueRecord}
-use Rattle.machine.proofs.Named.{stepNumber, Numbers, BookHas, EventHas, TracedNamed, CellNamed, JobNamed, number-is, number-named, state-after-has}
+use Rattle.book.proofs.Decoded.{number-is}
+use Rattle.machine.proofs.Named.{stepNumber, Numbers, BookHas, EventHas, TracedNamed, CellNamed, JobNamed, number-named, state-after-has}
 use Rattle.events.specs.Bytes.{eventAt, eventsFrom, eventsIn, offsetsFrom}
 use Rattle.interpreter.specs.Run.{finalState}
 use Rattle.integrity.specs.Integrity.{_isIn_}

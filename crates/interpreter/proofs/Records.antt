@@ -20,7 +20,7 @@ use Rattle.acts.specs.declared.StoredCell.{StoredCell}
 use Rattle.acts.specs.declared.StoredJob.{StoredJob}
 use Rattle.acts.specs.declared.Stored.{Stored}
 use Rattle.acts.specs.Views.{storedOf, storedContent, cellOf, jobOf}
-use Rattle.machine.proofs.Named.{number-is}
+use Rattle.book.proofs.Decoded.{number-is}
 use Rattle.tables.specs.Bytes.{storedRecord, cellRecordIn, jobRecordOf, cellTable, jobTable, savedCells, savedJobs}
 
 -- a map by way of another

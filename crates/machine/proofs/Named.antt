@@ -3,7 +3,6 @@
 -- property that the book's, the events' and the machine's own have.
 --     Named, .., StateNamed           values, cells, jobs, states
 --     Numbers, BookHas, EventHas      where the property holds from the start
---     number-is                       the number of a value by kind and number
 --     state-after-has                 a state that a run reaches
 --     Any, state-after-named          the same of any numbers
 --     Few, job-few                    and so the job's block and position are small
@@ -14,7 +13,6 @@ use mathlib.Core.Option.{some}
 use mathlib.Core.List.{List, [], _∷_}
 use Prim.Native.Nat.{ℕ, zero, suc, _<_, _≤_}
 use native.Mathlib.Omega.{arith}
-use lib.Dec.{eqb}
 use lib.ListN.{length, length-set, getElem?}
 use borrow.Author.Tests.{ltb-true}
 use Rattle.labels.proofs.Impossible.{impossible}
@@ -26,6 +24,7 @@ use Rattle.book.specs.declared.Step.{Step}
 use Rattle.book.specs.declared.Step.the-variants.{Put, Name, Code, Add, New, Read, Write, Relabel, Lower, Start, Exec}
 use Rattle.book.specs.Book.{Book, valueOf}
 use Rattle.book.specs.Refusals.{valueNamed, cellNamed, stepNamed, hasCellShape}
+use Rattle.book.proofs.Decoded.{number-is}
 use Rattle.book.proofs.Tests.{both-right}
 use Rattle.book.proofs.Every.{All, all-each, all-set, all-push, all-at, all-get, all-replicate, all-both, mapped}
 use Rattle.book.proofs.Parsed.{SoundBlock, SoundBook}
@@ -98,16 +97,6 @@ module _ {Q : ℕ → Type 0} {blocks : ℕ} where
   number-named f (plain-named q) = q
   number-named f (cell-named q) = q
   number-named f (code-named h) = f _ h
-
--- the number of a value, whatever its kind
-pub number-is : (k n : ℕ) → numberOf (valueOf k n) ≡ n
-unfolding valueOf
-number-is k n = go (eqb k 0) refl (eqb k 1) refl
-  where
-    go : (a : Bool) → eqb k 0 ≡ a → (b : Bool) → eqb k 1 ≡ b → numberOf (valueOf k n) ≡ n
-    go true p b q = simp (valueOf, p) refl
-    go false p true q = simp (valueOf, p, q) refl
-    go false p false q = simp (valueOf, p, q) refl
 
 -- the position of a step that stands
 at-inside : {A : Type 0} (l : List A) (i : ℕ) (a : A) → getElem? l i ≡ some a → i < length l

@@ -1,5 +1,4 @@
 -- What a record says, as a row of its table, is the record: its bytes, known, and with no spare field.
---     number-of                                           the number of a value, whatever its kind
 --     c-row, shape-row, cell-row, block-row, step-row     one for each group
 -- Assumes nothing.
 use mathlib.Core.Path.{_≡_, refl, sym, ap, _∙_}
@@ -19,6 +18,7 @@ use Rattle.book.specs.Spans.{Bytes}
 use Rattle.book.specs.Records.{byteAt, numberAt, numberBytes, cut}
 use Rattle.book.specs.Book.{shapeAt, declaredAt, blockAt, stepAt, valueOf, kindOf, numberOf}
 use Rattle.book.specs.Refusals.{above, outOfRange}
+use Rattle.book.proofs.Decoded.{number-is}
 use Rattle.book.proofs.Tests.{either-left, either-right}
 use Rattle.book.proofs.Digits.{digits}
 use Rattle.book.proofs.Groups.{is-c, is-shape, is-cell, is-block, is-step}
@@ -33,15 +33,6 @@ abbrev fine : List ℕ → Row
 fine l = record { bytes = l; known = true; spare = false }
 
 -- "0 plain, 1 cell, 2 code"
-pub number-of : (k n : ℕ) → numberOf (valueOf k n) ≡ n
-unfolding valueOf
-number-of k n = go (eqb k 0) refl (eqb k 1) refl
-  where
-    go : (a : Bool) → eqb k 0 ≡ a → (b : Bool) → eqb k 1 ≡ b → numberOf (valueOf k n) ≡ n
-    go true p b q = simp p
-    go false p true q = simp (p, q)
-    go false p false q = simp (p, q)
-
 kind-of : (k n : ℕ) → k ≤ 2 → kindOf (valueOf k n) ≡ k
 unfolding valueOf
 kind-of k n h = go (eqb k 0) refl (eqb k 1) refl
@@ -122,7 +113,7 @@ module _ (s : List ℕ) (o : ℕ) (c : cut s o ≡ false) where
       let k = byteAt s (o + 3) in
       let n = numberAt s (o + 4) in
       told (λ d. cellRow (cellRowOf d)) (declaredAt s o) _ refl 32 7 h refl
-      (rw (number-of k n, kind-of k n (value-kind s o h r)) (ap (λ l. fine (32 ∷ byteAt s (o + 1) ∷ byteAt s (o + 2) ∷ k ∷ l)) (number-in s o b 4)))
+      (rw (number-is k n, kind-of k n (value-kind s o h r)) (ap (λ l. fine (32 ∷ byteAt s (o + 1) ∷ byteAt s (o + 2) ∷ k ∷ l)) (number-in s o b 4)))
 
   abbrev asStep : Step → Row
   asStep p = stepRow (stepRowOf p)

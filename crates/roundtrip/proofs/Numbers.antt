@@ -1,17 +1,13 @@
 -- Laws of a number's four bytes.
---     four-bytes                      they make the number, where it has 32 bits
---     number-there, number-bytes      so it is read where they stand
---     number-fits                     and what is read has 32 bits
+--     four-bytes        they make the number, where it has 32 bits
+--     number-there      so it is read where they stand
 -- Assumes nothing.
 use mathlib.Core.Path.{_≡_}
-use mathlib.Core.List.{List, _++_}
+use mathlib.Core.List.{List}
 use Prim.Native.Nat.{ℕ, _+_, _*_, _/_, _%_, _<_}
 use native.Mathlib.Nat.{div-div-eq-div-mul}
 use native.Mathlib.Omega.{arith}
-use lib.ListN.{length}
-use lib.Seq.{getD-append-add}
-use Rattle.book.specs.Spans.{Bytes}
-use Rattle.book.specs.Records.{byteAt, numberAt, numberBytes}
+use Rattle.book.specs.Records.{byteAt, numberAt}
 
 small : (x : ℕ) → x < 256 → x % 256 ≡ x
 small x h = omega arith
@@ -37,14 +33,3 @@ pub number-there : (s : List ℕ) (o n : ℕ) → n < 4294967296 → byteAt s o 
     → byteAt s (o + 2) ≡ n / 65536 % 256 → byteAt s (o + 3) ≡ n / 16777216 % 256 → numberAt s o ≡ n
 unfolding numberAt
 number-there s o n h a b c d = rw (a, b, c, d) (four-bytes n h)
-
-pub number-bytes : (pre rest : List ℕ) (n : ℕ) → n < 4294967296 → numberAt (pre ++ (numberBytes n ++ rest)) (length pre) ≡ n
-number-bytes pre rest n h =
-    let byte : (i : ℕ) → byteAt (pre ++ (numberBytes n ++ rest)) (length pre + i) ≡ byteAt (numberBytes n ++ rest) i = λ i. getD-append-add pre (numberBytes n ++ rest) i 0 in
-    let z : length pre + 0 ≡ length pre = omega arith in
-    number-there (pre ++ (numberBytes n ++ rest)) (length pre) n h (rw z at (byte 0)) (byte 1) (byte 2) (byte 3)
-
--- a number of four bytes has 32 bits
-pub number-fits : (s : List ℕ) (o : ℕ) → Bytes s → numberAt s o < 4294967296
-unfolding numberAt
-number-fits s o h = omega (arith, h o, h (o + 1), h (o + 2), h (o + 3))

@@ -11,6 +11,7 @@ use Rattle.book.specs.Spans.{Bytes}
 use Rattle.book.specs.Records.{byteAt, numberAt}
 use Rattle.book.specs.Book.{cellsOf, blocksOf, stepsFrom, declaredAt, stepAt, blockAt, parse}
 use Rattle.book.proofs.Digits.{number-small}
+use Rattle.book.proofs.Decoded.{number-is}
 use Rattle.book.proofs.Tests.{if-both}
 use Rattle.book.proofs.Every.{All, all-append, mapped, all-said}
 use Rattle.book.proofs.Parsed.{SoundBlock, sound}
@@ -18,14 +19,13 @@ use Rattle.rows.specs.Rows.{BookTables}
 use Rattle.rows.specs.Write.{written}
 use Rattle.rows.specs.Parsed.{cellRowOf, stepRowOf, blockRowOf, stepRowsOf, tablesOf}
 use Rattle.roundtrip.specs.RoundTrip.{TakenApart, LentAgain}
-use Rattle.roundtrip.proofs.AsRows.{number-of}
 use Rattle.roundtrip.proofs.WrittenAgain.{written-again}
 use Rattle.roundtrip.proofs.Repacked.{CellSmall, BlockSmall, StepSmall, Small, same-tables}
 
 module _ (s : List ℕ) (b : Bytes s) where
   cell-small : (o : ℕ) → CellSmall (cellRowOf (declaredAt s o))
   unfolding cellRowOf declaredAt
-  cell-small o = rw (number-of (byteAt s (o + 3)) (numberAt s (o + 4))) (number-small s b (o + 4))
+  cell-small o = rw (number-is (byteAt s (o + 3)) (numberAt s (o + 4))) (number-small s b (o + 4))
 
   abbrev Fits : Step → Type 0
   Fits p = StepSmall (stepRowOf p)

@@ -1,10 +1,9 @@
--- Laws of rows packed one after the other: each that is known is a whole record, and the records stand at the rows' places.
+-- Laws of rows packed one after the other: each that is known is a whole record.
 --     Known, known, known-kind     what is known of a row whose kind is one of its table's
 --     Sized, known-sized           a row that is as long as its kind says; such a row is
 --     none-bad, rows-sized         what it says that no row is bad; of tables that have no unknown row
 --     all-join, all-front, ..      what holds of two lists, and of the parts of one
 --     of-rows                      what holds of the rows of a table says it of the table
---     places, packed-places        the offsets of rows, which are the records
 --     record-on, records-none      the records from a row's place on
 --     packed-whole, known-whole    refusal 2 does not hold of them
 -- Assumes nothing.
@@ -157,11 +156,6 @@ pub rows-sized : (t : BookTables) → unknownFault (rows t) ≡ Nowhere → All 
 rows-sized t e =
     all-both Formed (λ r. not (r .known) ≡ false) Sized (λ r f n. f (not-false _ n)) (rows t) (rows-formed t) (none-bad (λ r. not (r .known)) 0 (rows t) e)
 
--- the offsets of rows that stand from o on
-unfoldable pub places : ℕ → List Row → List ℕ
-places o [] = []
-places o (r ∷ rs) = o ∷ places (o + length (r .bytes)) rs
-
 -- a whole record b that stands behind others
 module _ (pre b rest : List ℕ) (some : 0 < length b) (long : span (byteAt b 0) ≡ length b) where
   abbrev s : List ℕ
@@ -188,14 +182,6 @@ module _ (pre b rest : List ℕ) (some : 0 < length b) (long : span (byteAt b 0)
 
 pub records-none : (pre : List ℕ) → offsetsBy span (pre ++ []) (length pre) ≡ []
 records-none pre = offsets-end span (pre ++ []) (length pre) (omega (arith, length-append pre []))
-
-pub packed-places : (rs : List Row) (pre : List ℕ) → All Sized rs → offsetsBy span (pre ++ packedRows rs) (length pre) ≡ places (length pre) rs
-unfolding places
-packed-places [] pre h = records-none pre
-packed-places (r ∷ rs) pre h =
-    record-on pre (r .bytes) (packedRows rs) (h .0 .some) (h .0 .long)
-    ∙ ap (λ (os : List ℕ). length pre ∷ os)
-    ((rw (append-assoc pre (r .bytes) (packedRows rs)) at (packed-places rs (pre ++ r .bytes) (h .1))) ∙ ap (λ n. places n rs) (length-append pre (r .bytes)))
 
 pub packed-whole : (rs : List Row) (pre : List ℕ) → All Sized rs → Whole (pre ++ packedRows rs) (length pre)
 unfolding sweep

@@ -31,7 +31,7 @@ use Rattle.acts.specs.declared.Act.the-variants.{Blocked, Give, Lower}
 use Rattle.acts.specs.Views.{valueIn, storedOf, storedContent, cellOf, actor, registerIn, nearby, effectOf, jobAfter, turnTaken, kept, settled}
 use Rattle.acts.specs.Views.{sortOf, waits, acts, Does, Makes, giveSort, lowerSort, storeSort, createSort, launchSort}
 use Rattle.turns.specs.Turns.{numberIn, targetBy, Takes}
-use Rattle.machine.proofs.Named.{number-is}
+use Rattle.book.proofs.Decoded.{number-is}
 use Rattle.acts.proofs.Acting.{write-closed, same-some, same-none, not-plain, is-plain, not-cell, is-cell}
 
 -- what the code hands back for a step p, by what its turn is

@@ -12,7 +12,7 @@ use Rattle.book.specs.declared.Step.{Step}
 use Rattle.book.specs.Parts.{partsOf}
 use Rattle.machine.specs.States.{Traced}
 use Rattle.machine.specs.Records.{numberOf}
-use Rattle.machine.proofs.Named.{number-is}
+use Rattle.book.proofs.Decoded.{number-is}
 use Rattle.acts.specs.declared.Stored.{Stored}
 use Rattle.acts.specs.Views.{storedOf, actor}
 use Rattle.turns.specs.Turns.{targetThrough, targetBy, targetIn, reachedBy, reachedIn}
