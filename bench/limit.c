@@ -556,11 +556,12 @@ static uint32_t give(struct job *job, uint8_t number, uint8_t kind, uint32_t giv
     return length;
 }
 
+/* A sum that has more than 32 bits is blocked. */
 static uint32_t step_add(struct job *job, const uint8_t *step)
 {
     const struct value a = job->registers[step[2]], b = job->registers[step[3]];
 
-    if (a.kind != PLAIN_VALUE || b.kind != PLAIN_VALUE) {
+    if (a.kind != PLAIN_VALUE || b.kind != PLAIN_VALUE || a.number > UINT32_MAX - b.number) {
         return 0;
     }
     const struct value sum = {a.number + b.number, PLAIN_VALUE, lower_of(a.source, b.source)};

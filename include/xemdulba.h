@@ -22,8 +22,8 @@ extern "C" {
 /* The version that this header declares. */
 #define XEMDULBA_VERSION "0.1.0"
 
-/* The last change request whose calls and refusals this header has: one, the writer. Each later request sets its own number. */
-#define XEMDULBA_REQUEST 1
+/* The change requests from one to this number hold: one is the writer, two blocks sums that pass the top. */
+#define XEMDULBA_REQUEST 2
 
 /* The refusals, and what the rule of each says. A refusal has a place: the offset of the first record at fault in the book, or of the
  * first event at fault in the list for 9. It is 0 for 1 and for 10 to 13, where a list is too long, and where the first record is
@@ -163,7 +163,8 @@ struct xemdulba_told xemdulba_event(const uint8_t *list, size_t length, size_t o
  *   by an outsider at a label:
  *   81 write: label, cell, value kind, number        82 relabel: label, cell, label        83 new: label, shape, value kind, number
  *   84 exec: label, cell                             85 start: label, block
- * The answer of event I is byte I of `answers`: 0 done, 1 blocked, 2 no step left, 3 no such; 1 to 3 change nothing. Bytes of
+ * The answer of event I is byte I of `answers`: 0 done, 1 blocked, 2 no step left, 3 no such; 1 to 3 change nothing. A step add is
+ * blocked unless both operands are plain and their exact sum is at most 4,294,967,295; xemdulba-book(5) has each step. Bytes of
  * `answers` beyond the events keep their contents. What `cells`, `jobs` and `answers` held before plays no part. On a refusal
  * nothing is written. The caller sees to it that `cells`, `jobs` and `answers` overlap neither each other nor the book or the list. */
 struct xemdulba_ran xemdulba_run(const uint8_t *book, size_t length, const uint8_t *list, size_t list_length, uint8_t *cells,

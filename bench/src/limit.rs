@@ -141,6 +141,7 @@ fn stated(refusal: u32, place: u32) -> Result<(), Refusal> {
 mod tests {
     use super::*;
     use reference::cases::differ::{books, differ, tables};
+    use reference::cases::runs;
     use reference::cases::writes::{chosen, outcome};
     use reference::model::machine::fast;
     use reference::model::writer;
@@ -174,6 +175,12 @@ mod tests {
     #[test]
     fn runs_do_not_differ() {
         assert!(differ(1, 20_000, run, expected_run, |_| {}).is_none());
+        for case in runs::all() {
+            assert_eq!(
+                runs::outcome(run, &case),
+                runs::outcome(expected_run, &case)
+            );
+        }
     }
 
     fn expected_write(tables: &Tables, out: &mut [u8]) -> Result<usize, Refusal> {

@@ -411,7 +411,7 @@ class Words(unittest.TestCase):
 
     def test_the_sizes_of_a_writing_are_the_headers(self):
         sizes = {
-            "REQUEST": 1,
+            "REQUEST": 2,
             "SHAPE_ROW": xemdulba._SHAPE_ROW.size,
             "CELL_ROW": xemdulba._CELL_ROW.size,
             "BLOCK_ROW": xemdulba._BLOCK_ROW.size,

@@ -29,7 +29,7 @@ use Rattle.machine.specs.declared.Event.{Event}
 use Rattle.machine.specs.declared.Event.the-variants.{WriteBy, RelabelBy, NewBy, ExecBy, StartBy}
 use Rattle.machine.specs.Control.{given, onPlain, onCell, onCode}
 use Rattle.machine.specs.Acts.{execLabel, writeAct, relabelAct, newAct, startAct, execAct}
-use Rattle.machine.specs.Steps.{sum, addStep, readStep, lowerStep, turnOf}
+use Rattle.machine.specs.Steps.{summable, addStep, readStep, lowerStep, turnOf}
 use Rattle.machine.specs.Histories.{lists}
 use Rattle.machine.specs.Events.{tableSize, launchLabel, freshState, landed, turnLanded, outcomeOf, stateAfter}
 use Rattle.integrity.specs.Weakened.{alikeBy, fitsBy, declaredBy, stepRuleBy, walkBy, every, acceptedBy, Needed}
@@ -87,7 +87,7 @@ needed-there bytes events shapes cells blocks steps accepted e =
 pub each-needed : EachNeeded
 unfolding lower normal capped both either valueOf valueNamed viewOf onSome alikeIn alike knownOf fits knownValue declaredOk breaksUnless stuckUnless R.onKnownCell R.onKnownCode
     isPlainly fresh known R.lowerRule addable holds lowRule highRule stepRule given onPlain onCell onCode execLabel writeAct relabelAct newAct startAct
-    execAct sum addStep readStep lowerStep turnOf landed turnLanded outcomeOf stateAfter alikeBy fitsBy declaredBy stepRuleBy walkBy every acceptedBy
+    execAct summable addStep readStep lowerStep turnOf landed turnLanded outcomeOf stateAfter alikeBy fitsBy declaredBy stepRuleBy walkBy every acceptedBy
     L.writeActBy L.relabelActBy L.execActBy L.lowerStepBy turnBy outcomeBy stateBy cellHolds jobHolds sentencesHold those while sweep span limits group
     numberAt cutBy offsetsIn offsetsBy groupOf stepsFrom shapeAt declaredAt stepAt blockAt parse cutFault inOrder misplaced orderFault counted tooMany
     beyond countFault above outOfRange rangeFault cellNamed stepNamed dangling dangles nameFault orRefuse unreadable stepCount fault cellFault orThen

@@ -59,13 +59,13 @@ module _ (K : Book) (size : ℕ) (s : State Label) (v : Invariant K s) (ok : Gro
   pub add-ok : (r a b : ℕ) → StepOk K (s .cells) j (R.addRule (K .c) t r a b) (addStep sources j r (register sources j a) (register sources j b))
   unfolding addStep
   add-ok r a b =
-      need-ok K (λ p. plain-ok K (λ x ex. plain-ok K (λ y ey.
+      need-ok K (λ p. plain-ok K (λ x ex. plain-ok K (λ y ey. given-ok K (λ e.
       gives-ok K s j t m r N.Plain _ _ _ keep keep-ok
       (record {
         cellular = λ i q. cc;
         fits = λ z. tt;
         source = add-source (K .c .0) (j .label .0) _ _ (t .p) _ _ (j .history) (register-ok K s j t m a .source) (register-ok K s j t m b .source) (m .source);
-      }))))
+      })))))
 
   -- what may be stored in a cell of shape i
   module _ (a i : ℕ) (h : holds (K .c) (shapeOf K) t a i ≡ true) where

@@ -5,6 +5,7 @@ use mathlib.Core.List.{List}
 use Prim.Native.Nat.{ℕ, _+_, _<_}
 use native.Mathlib.Omega.{arith}
 use lib.Dec.{eqb}
+use borrow.Author.Tests.{ltb-true}
 use Rattle.book.specs.declared.Step.{Step}
 use Rattle.book.specs.Records.{byteAt, numberAt}
 use Rattle.book.specs.Book.{Book, declaredAt, stepAt, stepsFrom, blockAt, cellsOf, blocksOf, parse}
@@ -14,7 +15,7 @@ use Rattle.book.proofs.Every.{All, all-in, map-from, all-said}
 use Rattle.book.proofs.Parsed.{SoundBook, sound}
 use Rattle.machine.specs.Histories.{lists, History}
 use Rattle.machine.specs.States.{Traced}
-use Rattle.machine.specs.Steps.{sum}
+use Rattle.machine.specs.Steps.{summable}
 use Rattle.machine.specs.Events.{tableSize, launchLabel}
 use Rattle.machine.specs.Records.{numberOf, valueRecord, cellRecord, jobRecord, ValueRecord}
 use Rattle.book.proofs.Decoded.{number-is}
@@ -83,8 +84,8 @@ module _ (s : List ℕ) (b : Bytes s) where
 
 -- those that the machine makes
 made : Numbers Fits tableSize
-unfolding sum
-made = record { none = omega arith; sums = λ x y. omega arith; cells = λ k h. omega (arith, h) }
+unfolding summable
+made = record { none = omega arith; sums = λ x y t. ltb-true _ _ t; cells = λ k h. omega (arith, h) }
 
 value-fits : (K : Book) → SoundBook K → (v : Traced History) → TracedNamed Fits K v → Fits (numberOf (v .value))
 value-fits K ok v n = number-named (λ b h. omega (arith, h, ok .few)) (n .value)

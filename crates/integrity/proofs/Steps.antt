@@ -21,7 +21,7 @@ use Rattle.machine.specs.Steps.{register, through, addStep, readStep, turnOf}
 use Rattle.integrity.proofs.Trees.{Grounded}
 use Rattle.integrity.proofs.Invariant.{shapeOf, Match, Invariant}
 use Rattle.integrity.proofs.Effects.{EffectOk, keep-ok}
-use Rattle.integrity.proofs.Walks.{StepOk, need-ok, either-ok, entry-ok, plain-ok, cell-ok}
+use Rattle.integrity.proofs.Walks.{StepOk, need-ok, either-ok, given-ok, entry-ok, plain-ok, cell-ok}
 use Rattle.integrity.proofs.LowActs.{BlocksPass, low-write, low-relabel, low-new, low-start, low-exec}
 use Rattle.integrity.proofs.Outcomes.{low-ok, moves-ok}
 use Rattle.integrity.proofs.HighSteps.{put-ok, name-ok, code-ok, add-ok, new-ok, read-ok, lower-ok, write-ok, relabel-ok, start-ok, exec-ok}
@@ -44,7 +44,7 @@ module _ (K : Book) (size : ℕ) (s : State Label) (v : Invariant K s) (ok : Gro
   low-step lo (Put r n) = low-ok K s j t m r _ _ keep keep-ok
   low-step lo (Name r k) = low-ok K s j t m r _ _ keep keep-ok
   low-step lo (Code r b) = low-ok K s j t m r _ _ keep keep-ok
-  low-step lo (Add r a b) = plain-ok K (λ x ex. plain-ok K (λ y ey. low-ok K s j t m r _ _ keep keep-ok))
+  low-step lo (Add r a b) = plain-ok K (λ x ex. plain-ok K (λ y ey. given-ok K (λ e. low-ok K s j t m r _ _ keep keep-ok)))
   low-step lo (New r i a) =
       need-ok K (λ e. low-ok K s j t m r _ _ _ (low-new K size s v (j .label) (j .history) (low-label lo) i (register sources j a) (low-trust i e)))
   low-step lo (Read r w) = cell-ok K (λ k ek. entry-ok K (λ c ec. low-ok K s j t m r _ _ keep keep-ok))

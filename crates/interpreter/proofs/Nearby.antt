@@ -200,7 +200,7 @@ module _ (s : State Label) where
     turn-allowed (Put r n) = keeps
     turn-allowed (Name r k) = keeps
     turn-allowed (Code r b) = keeps
-    turn-allowed (Add r a b) = plain-both TurnAllowed waits (λ x ex. plain-both TurnAllowed waits (λ y ey. keeps))
+    turn-allowed (Add r a b) = plain-both TurnAllowed waits (λ x ex. plain-both TurnAllowed waits (λ y ey. given-both TurnAllowed waits (λ e. keeps)))
     turn-allowed (New r i a) = record { effect = make-allowed (j .label) (j .history) i _ }
     turn-allowed (Read r w) = cell-both TurnAllowed waits (λ k ek. some-both TurnAllowed waits (λ c ec. keeps))
     turn-allowed (Write w a) = through-allowed w _ (λ k. write-allowed (j .label) (j .history) k _)

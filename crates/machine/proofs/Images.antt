@@ -68,7 +68,7 @@ module _ (A B : Histories) (i : Image A B) where
     turn-image (Put r n) = simp (map-set (tracedImage of))
     turn-image (Name r k) = simp (map-set (tracedImage of))
     turn-image (Code r b) = simp (map-set (tracedImage of))
-    turn-image (Add r a b) = simp (register-image j, onPlain-map (turnImage of), map-set (tracedImage of), of-join)
+    turn-image (Add r a b) = simp (register-image j, onPlain-map (turnImage of), given-map (turnImage of), map-set (tracedImage of), of-join)
     turn-image (New r k a) = simp (length-map, register-image j, map-set (tracedImage of), making-image)
     turn-image (Read r w) =
         simp (register-image j, onCell-map (turnImage of), getElem?-map (cellImage of), onSome-entry, onSome-map (turnImage of), map-set (tracedImage of), of-join)

@@ -11,7 +11,7 @@ use mathlib.Core.Path.{_≡_, refl, _∙_}
 use mathlib.Core.Bool.{Bool, true, false}
 use mathlib.Core.Option.{some}
 use mathlib.Core.List.{List, [], _∷_}
-use Prim.Native.Nat.{ℕ, zero, suc, _<_, _≤_}
+use Prim.Native.Nat.{ℕ, zero, suc, _+_, _<_, _≤_}
 use native.Mathlib.Omega.{arith}
 use lib.ListN.{length, length-set, getElem?}
 use borrow.Author.Tests.{ltb-true}
@@ -33,7 +33,7 @@ use Rattle.machine.specs.declared.Event.the-variants.{StepOf, WriteBy, R
 use Rattle.machine.specs.Histories.{Histories}
 use Rattle.machine.specs.States.{Traced, Cell, Job, State}
 use Rattle.machine.specs.Acts.{Effect, blocked, keep, store, create, launch, freshJob, zeroWith, writeAct, relabelAct, newAct, startAct, execAct}
-use Rattle.machine.specs.Steps.{Turn, sum, register, gets, moved, addStep, readStep, lowerStep, through, turnOf}
+use Rattle.machine.specs.Steps.{Turn, summable, register, gets, moved, addStep, readStep, lowerStep, through, turnOf}
 use Rattle.machine.specs.Events.{noBlock, blockOf, valueExists, Outcome, declared, landed, turnLanded, outcomeOf, freshState, stateAfter}
 use Rattle.machine.specs.Records.{numberOf}
 use Rattle.machine.proofs.Cases.{given-both, some-both, plain-both, cell-both, code-both}
@@ -63,7 +63,7 @@ eventNumber (StartBy l b) = 0
 -- a property of numbers, in tables of this size: of those that the machine makes
 pub record Numbers (Q : ℕ → Type 0) (size : ℕ) : Type 0 where
   pub none : Q 0
-  pub sums : (x y : ℕ) → Q (sum x y)
+  pub sums : (x y : ℕ) → summable x y ≡ true → Q (x + y)
   pub cells : (k : ℕ) → k < size → Q k
 
 -- of those that a book, an event brings
@@ -219,7 +219,9 @@ module _ (Q : ℕ → Type 0) (A : Histories) (K : Book) (size : ℕ) (N : Numbe
     turn-named f cells (Name r k) e h = giving-named r _ _ (cell-named h)
     turn-named f cells (Code r b) e h = giving-named r _ _ (code-named (ltb-true _ _ e))
     turn-named f cells (Add r a b) e h =
-        plain-both (TurnNamed Q K) waits (λ x ex. plain-both (TurnNamed Q K) waits (λ y ey. giving-named r _ _ (plain-named (N .sums x y))))
+        plain-both (TurnNamed Q K) waits
+        (λ x ex. plain-both (TurnNamed Q K) waits
+        (λ y ey. given-both (TurnNamed Q K) waits (λ t. giving-named r _ _ (plain-named (N .sums x y t)))))
     turn-named f cells (New r i a) e h =
         given-both (λ x. TurnNamed Q K (record { job = gets A j r (CellName (length (s .cells))) (j .history); effect = x })) waits
         (λ t. goes (gets-named r _ _ (cell-named (N .cells _ (ltb-true _ _ t)))) (create-named (record { content = record { value = register-named a .value } })))
@@ -297,7 +299,7 @@ Any n = Unit {0}
 
 pub state-after-named : (A : Histories) (K : Book) (size : ℕ) → SoundBook K → (l : Label) (es : List Event) → StateNamed Any K (stateAfter A size K (freshState A K l) es)
 state-after-named A K size ok l es =
-    state-after-has Any A K size (record { none = tt; sums = λ x y. tt; cells = λ k h. tt }) ok
+    state-after-has Any A K size (record { none = tt; sums = λ x y t. tt; cells = λ k h. tt }) ok
     (record { cells = all-each _ (λ d. tt) (K .cells); blocks = all-each _ (λ b. all-each _ (λ p. tt) (b .steps)) (K .blocks) }) l es (all-each _ (λ e. tt) es)
 
 -- "64 blocks or 64 steps in a block"

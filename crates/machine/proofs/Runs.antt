@@ -11,13 +11,13 @@ use Rattle.book.specs.Book.{groupOf, stepsFrom, shapeAt, valueOf, declaredAt, s
 use Rattle.book.specs.Refusals.{valueNamed}
 use Rattle.machine.specs.Control.{given, onPlain, onCell, onCode}
 use Rattle.machine.specs.Acts.{execLabel, writeAct, relabelAct, newAct, startAct, execAct}
-use Rattle.machine.specs.Steps.{sum, addStep, readStep, lowerStep, turnOf}
+use Rattle.machine.specs.Steps.{summable, addStep, readStep, lowerStep, turnOf}
 use Rattle.machine.specs.Events.{landed, turnLanded, outcomeOf, stateAfter, answers}
-use Rattle.machine.specs.Samples.{SampleRuns, HistoryRun}
+use Rattle.machine.specs.Samples.{SampleRuns, HistoryRun, TopSums}
 
 pub sample-runs : SampleRuns
 unfolding lower both either those while span limits group numberAt cutBy offsetsIn offsetsBy groupOf stepsFrom shapeAt valueOf declaredAt stepAt blockAt parse valueNamed
-    onSome given onPlain onCell onCode execLabel writeAct relabelAct newAct startAct execAct sum addStep readStep lowerStep turnOf landed turnLanded outcomeOf stateAfter answers
+    onSome given onPlain onCell onCode execLabel writeAct relabelAct newAct startAct execAct summable addStep readStep lowerStep turnOf landed turnLanded outcomeOf stateAfter answers
 sample-runs =
     record {
       high-answers = refl;
@@ -30,5 +30,16 @@ sample-runs =
 
 pub history-run : HistoryRun
 unfolding lower both either those while span limits group numberAt cutBy offsetsIn offsetsBy groupOf stepsFrom shapeAt valueOf declaredAt stepAt blockAt parse valueNamed
-    onSome given onPlain onCell onCode execLabel writeAct relabelAct newAct startAct execAct sum addStep readStep lowerStep turnOf landed turnLanded outcomeOf stateAfter answers
+    onSome given onPlain onCell onCode execLabel writeAct relabelAct newAct startAct execAct summable addStep readStep lowerStep turnOf landed turnLanded outcomeOf stateAfter answers
 history-run = record { cells = refl; jobs = refl }
+
+pub top-sums : TopSums
+unfolding onSome given onPlain summable addStep turnOf landed turnLanded outcomeOf stateAfter answers
+top-sums =
+    record {
+      top-and-one = record { answered = refl; state = refl };
+      two-halves = record { answered = refl; state = refl };
+      two-tops = record { answered = refl; state = refl };
+      top-and-none = record { answered = refl; value = refl };
+      nearly-halves = record { answered = refl; value = refl };
+    }

@@ -1,6 +1,7 @@
 -- Sample runs.
 --     SampleRuns       those of 01, "Sample books"
 --     HistoryRun       one that has nearly every act, with the histories that it leaves
+--     TopSums          sums at the top: 02, Two
 -- Assumes nothing.
 use Prim.Native.Nat.{ℕ}
 use mathlib.Core.Path.{_≡_}
@@ -9,12 +10,14 @@ use Rattle.labels.specs.declared.Label.{Label}
 use Rattle.labels.specs.Labels.{label, trust}
 use Rattle.book.specs.declared.Value.{Value}
 use Rattle.book.specs.declared.Value.the-variants.{Plain, CodeName}
+use Rattle.book.specs.declared.Step.the-variants.{Put, Add}
 use Rattle.book.specs.Book.{Book, parse}
 use Rattle.book.specs.Samples.{bookA, lastWrite}
 use Rattle.machine.specs.declared.Event.{Event}
 use Rattle.machine.specs.declared.Event.the-variants.{StepOf, WriteBy, RelabelBy, NewBy, ExecBy, StartBy}
 use Rattle.machine.specs.Histories.{History, hands, lists}
 use Rattle.machine.specs.States.{Cell, Job, State}
+use Rattle.machine.specs.Steps.{register}
 use Rattle.machine.specs.Events.{tableSize, launchLabel, freshState, stateAfter, answers}
 use Rattle.machine.specs.Records.{CellRecord, cellRecords}
 
@@ -25,8 +28,11 @@ ofBound b = parse (bookA 0x09 0x09 b lastWrite)
 abbrev pub answersOf : Book → List Event → List ℕ
 answersOf K es = answers lists tableSize K (freshState lists K (launchLabel K)) es
 
+abbrev pub reached : Book → List Event → State History
+reached K es = stateAfter lists tableSize K (freshState lists K (launchLabel K)) es
+
 abbrev pub cellsAfter : Book → List Event → List CellRecord
-cellsAfter K es = cellRecords K (stateAfter lists tableSize K (freshState lists K (launchLabel K)) es)
+cellsAfter K es = cellRecords K (reached K es)
 
 -- "50 00 four times"
 abbrev pub fourSteps : List Event
@@ -95,7 +101,7 @@ abbrev pub shownJob : Job History → ℕ × ℕ × ℕ × List ℕ
 shownJob j = (j .block, j .position, j .label .0, numbers (j .history))
 
 abbrev pub afterActs : State History
-afterActs = stateAfter lists tableSize (parse bookOfActs) (freshState lists (parse bookOfActs) (launchLabel (parse bookOfActs))) acts
+afterActs = reached (parse bookOfActs) acts
 
 pub record HistoryRun : Type 0 where
   pub cells : map shownCell (afterActs .cells)
@@ -107,3 +113,34 @@ pub record HistoryRun : Type 0 where
       ∷ (1, 0, 0, 2 ∷ 15 ∷ 0 ∷ [])
       ∷ (1, 0, 2, 2 ∷ [])
       ∷ []
+
+-- put 0, x; put 1, y; put 2, 9; add 2, 0, 1
+abbrev pub summing : ℕ → ℕ → Book
+summing x y =
+    record {
+      c = label 3;
+      shapes = [];
+      cells = [];
+      blocks = record { bound = label 12; steps = Put 0 x ∷ Put 1 y ∷ Put 2 9 ∷ Add 2 0 1 ∷ [] } ∷ [];
+    }
+
+-- up to the add
+abbrev pub threeSteps : List Event
+threeSteps = StepOf 0 ∷ StepOf 0 ∷ StepOf 0 ∷ []
+
+-- 02, Two: "add is blocked"; 01: "\"Blocked\" changes nothing"
+pub record SumBlocked (x y : ℕ) : Type 0 where
+  pub answered : answersOf (summing x y) fourSteps ≡ 0 ∷ 0 ∷ 0 ∷ 1 ∷ []
+  pub state : reached (summing x y) fourSteps ≡ reached (summing x y) threeSteps
+
+-- add is done, and register 2 has the sum
+pub record SumDone (x y sum : ℕ) : Type 0 where
+  pub answered : answersOf (summing x y) fourSteps ≡ 0 ∷ 0 ∷ 0 ∷ 0 ∷ []
+  pub value : map (λ (j : Job History). register lists j 2 .value) (reached (summing x y) fourSteps .jobs) ≡ Plain sum ∷ []
+
+pub record TopSums : Type 0 where
+  pub top-and-one : SumBlocked 4294967295 1
+  pub two-halves : SumBlocked 2147483648 2147483648
+  pub two-tops : SumBlocked 4294967295 4294967295
+  pub top-and-none : SumDone 4294967295 0 4294967295
+  pub nearly-halves : SumDone 2147483647 2147483648 4294967295

@@ -1,9 +1,12 @@
--- A step of a job: 01, "The machine". Each kind of step is one definition.
+-- A step of a job: 01, "The machine", with add as 02, Two, has it. Each kind of step is one definition.
 --     Turn                   the job after its step, and what the step does to the tables
 --     register, gets         a register of a job; a job whose step gave a register
+--     summable               which sums add makes
 --     addStep, .., turnOf    each kind of step; a step
 -- Assumes nothing.
-use Prim.Native.Nat.{ℕ, suc, _+_, _%_}
+use Prim.Native.Nat.{ℕ, suc, _+_}
+use mathlib.Core.Bool.{Bool}
+use lib.Dec.{ltb}
 use lib.ListN.{length, getD, set, getElem?}
 use Rattle.labels.specs.declared.Label.{Label}
 use Rattle.labels.specs.Labels.{reaches}
@@ -22,9 +25,9 @@ pub record Turn (H : Type 0) : Type 0 where
   pub job : Job H
   pub effect : Effect H
 
--- "the sum modulo 4,294,967,296"
-unfoldable pub sum : ℕ → ℕ → ℕ
-sum x y = (x + y) % 4294967296
+-- the exact sum is not "4,294,967,296 or more"
+unfoldable pub summable : ℕ → ℕ → Bool
+summable x y = ltb (x + y) 4294967296
 
 -- over any histories
 module _ (A : Histories) where
@@ -58,12 +61,15 @@ module _ (A : Histories) where
   abbrev pub giving : Job H → ℕ → Value → Turn H
   giving j r v = turn (gets j r v (j .history)) keep
 
-  -- "add: blocked unless both are plain; the sum modulo 4,294,967,296; both histories, then the act."
+  -- 01: "add: blocked unless both are plain; the sum modulo 4,294,967,296; both histories, then the act." 02, Two: "From now on add is
+  -- blocked when the exact sum is 4,294,967,296 or more."
   unfoldable pub addStep : Job H → ℕ → Traced H → Traced H → Turn H
   addStep j r a b =
       onPlain (a .value) (stay j)
       (λ x. onPlain (b .value) (stay j)
-      (λ y. turn (gets j r (Plain (sum x y)) (join (join (a .history) (b .history)) (j .history))) keep))
+      (λ y. given (summable x y)
+      (turn (gets j r (Plain (x + y)) (join (join (a .history) (b .history)) (j .history))) keep)
+      (stay j)))
 
   -- "read: blocked unless w is a cell; r gets the content (an act)."
   unfoldable pub readStep : State H → Job H → ℕ → ℕ → Turn H

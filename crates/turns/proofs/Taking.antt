@@ -5,12 +5,14 @@
 -- Assumes nothing.
 use mathlib.Core.Path.{_≡_, refl, sym, ap, _∙_}
 use mathlib.Core.Bool.{Bool, true, false}
-use Prim.Native.Nat.{ℕ, _<_, _≤_}
+use Prim.Native.Nat.{ℕ, _+_, _<_, _≤_}
 use mathlib.Core.List.{List}
 use lib.Dec.{ltb}
 use lib.ListN.{getElem?}
+use borrow.Author.Tests.{lt-ltb, le-ltb}
 use Rattle.labels.specs.declared.Label.{Label}
 use Rattle.labels.specs.Labels.{lower, reaches}
+use Rattle.book.specs.declared.Value.the-variants.{Plain}
 use Rattle.book.specs.declared.Step.{Step}
 use Rattle.book.specs.declared.Step.the-variants.{Put, Name, Code, Add, New, Read, Write, Relabel, Start, Exec}
 use Rattle.book.specs.declared.Step.the-variants as Step
@@ -22,7 +24,7 @@ use Rattle.machine.specs.States.{Traced, State}
 use Rattle.machine.specs.States as States
 use Rattle.machine.specs.Acts.{keep, acted, writeAct, relabelAct, newAct, startAct, execAct}
 use Rattle.machine.specs.Acts as Acts
-use Rattle.machine.specs.Steps.{Turn, sum, turn, stay, moved, gets, addStep, readStep, lowerStep, through, turnOf}
+use Rattle.machine.specs.Steps.{Turn, summable, turn, stay, moved, gets, addStep, readStep, lowerStep, through, turnOf}
 use Rattle.machine.specs.Events.{tableSize}
 use Rattle.acts.specs.declared.Stored.{Stored}
 use Rattle.acts.specs.declared.Near.{Near}
@@ -78,14 +80,25 @@ module _ (l h : Label) (rs : List Stored) (y : Near) where
           (λ m i. adding-is m i ∙ is-plain (stay sources (actor l h rs m i)) _ (u .number) (u .kind) e
           ∙ not-plain (stay sources (actor l h rs m i)) _ (v .number) (v .kind) n)
 
-      pub add-both : (z : ℕ) (s t : Label) → v .kind ≡ 0 → z ≡ sum (u .number) (v .number) → s ≡ lower (u .source) (v .source) → t ≡ lower s h
-          → Takes giveSort (nearby y) (Add r a b) l h rs (Give r (record { number = z; kind = 0; source = t }))
-      unfolding addStep valueOf
-      add-both z s t n ez es et =
-          give-is
-          (λ m i. adding-is m i ∙ is-plain (stay sources (actor l h rs m i)) _ (u .number) (u .kind) e
-          ∙ is-plain (stay sources (actor l h rs m i)) _ (v .number) (v .kind) n
-          ∙ rw (et, es, ez) refl)
+      module _ (n : v .kind ≡ 0) where
+        summing-is : (m i : ℕ) → turnOf sources tableSize (nearby y) (actor l h rs m i) (Add r a b)
+            ≡ given (summable (u .number) (v .number))
+            (turn sources (gets sources (actor l h rs m i) r (Plain (u .number + v .number)) (lower (lower (u .source) (v .source)) h)) keep)
+            (stay sources (actor l h rs m i))
+        unfolding addStep
+        summing-is m i =
+            adding-is m i ∙ is-plain (stay sources (actor l h rs m i)) _ (u .number) (u .kind) e
+            ∙ is-plain (stay sources (actor l h rs m i)) _ (v .number) (v .kind) n
+
+        module _ (z : ℕ) (ez : z ≡ u .number + v .number) where
+          pub add-past : 4294967296 ≤ z → Takes giveSort (nearby y) (Add r a b) l h rs Blocked
+          unfolding summable given
+          add-past p = blocked-is (λ m i. summing-is m i ∙ simp (← ez, le-ltb _ _ p))
+
+          pub add-both : (s t : Label) → z < 4294967296 → s ≡ lower (u .source) (v .source) → t ≡ lower s h
+              → Takes giveSort (nearby y) (Add r a b) l h rs (Give r (record { number = z; kind = 0; source = t }))
+          unfolding summable given valueOf
+          add-both s t p es et = give-is (λ m i. summing-is m i ∙ rw (et, es) (simp (← ez, lt-ltb _ _ p)))
 
   pub new-is : (r i a : ℕ) (v : Stored) (x : Act) → storedOf v ≡ registerIn h rs a
       → Makes (nearby y) r (newAct sources tableSize (nearby y) l h i (storedOf v)) x → Takes createSort (nearby y) (New r i a) l h rs x
@@ -197,7 +210,7 @@ module _ (l h : Label) (rs : List Stored) (y : Near) where
 pub as-told : (n : ℕ) (s : State Label) (p q : Step) (l h : Label) (rs : List Stored) (x : Act) → q ≡ p → Takes n s q l h rs x → Takes n s p l h rs x
 as-told n s p q l h rs x e t = rw (← e) t
 
-pub ruleset adds = (add-first, add-second, add-both)
+pub ruleset adds = (add-first, add-second, add-past, add-both)
 
 pub ruleset reads = (read-no, read-none, read-done)
 

@@ -6,12 +6,11 @@ use book::kind;
 use book::value_kind;
 use labels::Label;
 ghost use mathlib.Core.Path.{_≡_};
-ghost use Prim.Native.Nat.{_≤_};
+ghost use Prim.Native.Nat.{_+_, _≤_};
 ghost use lib.ListN.{length};
 ghost use Rattle.book.specs.declared.Step.the-variants.{Add, New, Read, Write, Relabel, Exec};
 ghost use Rattle.book.specs.Records.{byteAt};
 ghost use Rattle.book.specs.Book.{stepAt};
-ghost use Rattle.machine.specs.Steps.{sum};
 ghost use Rattle.acts.specs.declared.Act.the-variants.{Give};
 ghost use Rattle.acts.specs.Views.{storedOf, registerIn, nearby, giveSort, lowerSort, storeSort, createSort, launchSort};
 ghost use Rattle.turns.specs.Turns.{targetIn, Takes, Gives, Changes, Launches};
@@ -30,11 +29,11 @@ fn given(r: u8, kind: u8, number: u32, h: Label) -> Act
     )
 }
 
-// The sum modulo 4,294,967,296.
-fn add_numbers(x: u32, y: u32) -> u32
-    ensures { λ z. ⌜ z ≡ sum x y ⌝ }
+// The exact sum.
+fn add_numbers(x: u32, y: u32) -> u64
+    ensures { λ z. ⌜ z ≡ x + y ⌝ }
 {
-    ((x as u64 + y as u64) % 4294967296) as u32
+    x as u64 + y as u64
 }
 
 fn add(l: Label, h: Label, registers: [Stored; 8], near: Near, r: u8, a: u8, b: u8) -> Act
@@ -49,11 +48,14 @@ fn add(l: Label, h: Label, registers: [Stored; 8], near: Near, r: u8, a: u8, b: 
         return Act::Blocked;
     }
     let z = add_numbers(u.number, v.number);
+    if z >= 4294967296 {
+        return Act::Blocked; // the sum passes the top
+    }
     let s = u.source.lower_of(v.source);
     Act::Give(
         r,
         Stored {
-            number: z,
+            number: z as u32,
             kind: value_kind::PLAIN,
             source: s.lower_of(h),
         },

@@ -11,5 +11,7 @@ add-spec =
     (λ c κs. search needs) (λ c κs. search needs)
     (λ c. search (adds, needs))  -- u.kind != value_kind::PLAIN
     (λ c. search (adds, needs))  -- v.kind != value_kind::PLAIN
-    (λ c κs. search needs) (λ c κs. search needs) (λ c κs. search needs)
+    (λ c κs. search needs)
+    (λ c. search (adds, needs))  -- z >= 4294967296
+    (λ c κs. search needs) (λ c. search needs) (λ c κs. search needs)
     (λ c. search (adds, needs)))  -- none of these

@@ -47,7 +47,7 @@ fn reasons() -> Vec<(u8, Vec<Why>)> {
         (64, vec![]),
         (65, vec![]),
         (66, vec![]),
-        (67, vec![FirstNotPlain, SecondNotPlain]),
+        (67, vec![FirstNotPlain, SecondNotPlain, SumPassesTop]),
         (68, vec![Full]),
         (69, vec![NotACell]),
         (70, vec![NotACell, LabelAbove]),

@@ -6,6 +6,8 @@ pub enum Why {
     /// The first or the second operand of add is not plain.
     FirstNotPlain,
     SecondNotPlain,
+    /// Both are plain, and their exact sum is 4,294,967,296 or more.
+    SumPassesTop,
     /// The register is not a cell.
     NotACell,
     /// The cell does not hold code.
@@ -32,7 +34,8 @@ pub enum Why {
 impl Why {
     fn answer(self) -> u8 {
         match self {
-            Why::FirstNotPlain | Why::SecondNotPlain | Why::NotACell | Why::NotCode => 1,
+            Why::FirstNotPlain | Why::SecondNotPlain | Why::SumPassesTop => 1,
+            Why::NotACell | Why::NotCode => 1,
             Why::LabelAbove | Why::NewLabelAbove | Why::Full => 1,
             Why::NoStepLeft => 2,
             Why::NoJob | Why::NoCell | Why::NoBlock | Why::NoShape => 3,

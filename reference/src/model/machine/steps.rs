@@ -41,13 +41,15 @@ impl Job {
     }
 
     /// "add: blocked unless both are plain; the sum modulo 4,294,967,296; both histories, then
-    /// the act."
+    /// the act.", amended by 02, Two: "add is blocked when the exact sum is 4,294,967,296 or
+    /// more."
     fn add(&mut self, r: u8, a: u8, b: u8) -> Act {
         let first = self.plain_in(a).ok_or(Why::FirstNotPlain)?;
         let second = self.plain_in(b).ok_or(Why::SecondNotPlain)?;
+        let exact = first.checked_add(second).ok_or(Why::SumPassesTop)?;
         let both = self.register(a).history.with(self.register(b).history);
         let sum = Value {
-            datum: Datum::Plain(first.wrapping_add(second)),
+            datum: Datum::Plain(exact),
             history: both,
         };
         self.set(r, sum.after(self.history));

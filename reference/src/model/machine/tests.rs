@@ -1,4 +1,4 @@
-//! Expectations derived by hand from document 01.
+//! Expectations derived by hand from document 01, and from 02 where it amends the machine.
 
 mod events;
 mod refusals;
@@ -175,4 +175,19 @@ fn unaccepted_books_run() {
     // The declared cell breaks its rule, the step too.
     let book = "01 03 10 12 00 09 20 01 00 00 05 00 00 00 30 0C 4A 00";
     assert_eq!(runs(book, "50 00").answers, [1]);
+}
+
+#[test]
+fn a_doubling_is_blocked_at_its_32nd_time() {
+    // 1 doubled 31 times is 2,147,483,648, and once more would be 4,294,967,296. The put and 31
+    // doublings are done, 32 steps; whoever asks again is answered 1 again.
+    let steps = ["40 03 01 00 00 00", &" 43 03 03 03".repeat(40)].concat();
+    let ran = after(12, &steps, &"50 00 ".repeat(35));
+    assert_eq!(ran.answers[..32], [0; 32]);
+    assert_eq!(ran.answers[32..], [1, 1, 1]);
+    assert_eq!(ran.job(0), [0, 32, 12, 12]);
+    assert_eq!(ran.register(0, 3), (0, 2_147_483_648, 12));
+    // The last that is done doubles 1,073,741,824.
+    let ran = after(12, &steps, &"50 00 ".repeat(31));
+    assert_eq!(ran.register(0, 3), (0, 1_073_741_824, 12));
 }

@@ -55,8 +55,8 @@ impl Taken<'_> {
         }
         if let (Step::Add { .. }, [first, second]) = (self.step, &self.moved()[..]) {
             if let (Datum::Plain(one), Datum::Plain(two)) = (first.1.datum, second.1.datum) {
-                if one.checked_add(two).is_none() {
-                    reached.insert("67 wraps".to_string());
+                if u64::from(one) + u64::from(two) == u64::from(u32::MAX) {
+                    reached.insert("67 of the greatest sum".to_string());
                 }
             }
         }
@@ -133,7 +133,7 @@ const EXPECTED: [&str; 40] = [
     "67 of a touched second",
     "67 of a clean first by a lower job",
     "67 of a clean second by a lower job",
-    "67 wraps",
+    "67 of the greatest sum",
     "68 of a touched value",
     "68 of a clean value by a lower job",
     "68 of a made cell as value",

@@ -22,8 +22,11 @@ impl Job {
         if a.kind != PLAIN || b.kind != PLAIN {
             return BLOCKED;
         }
+        let Some(sum) = a.number.checked_add(b.number) else {
+            return BLOCKED;
+        };
         let source = a.source.min(b.source).min(self.source);
-        self.put(r, PLAIN, a.number.wrapping_add(b.number), source)
+        self.put(r, PLAIN, sum, source)
     }
 
     fn lower(&mut self, label: u8) -> u8 {

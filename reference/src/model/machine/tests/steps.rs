@@ -26,10 +26,53 @@ fn put_name_and_code_have_the_history_of_the_job() {
     assert_eq!(ran.job(0), [0, 5, 5, 5]);
 }
 
+/// Register 1 is one number, register 2 another, and r their sum.
+fn sum_of(one: &str, two: &str, r: &str) -> String {
+    format!("40 01 {one} 40 02 {two} 43 {r} 01 02")
+}
+
 #[test]
-fn add_wraps_and_asks_for_plain_operands() {
-    let ran = stepped(12, "40 01 FF FF FF FF 40 02 03 00 00 00 43 00 01 02", 3);
-    assert_eq!(ran.register(0, 0), (0, 2, 12));
+fn add_gives_a_sum_that_fits() {
+    // 3,000,000,000 and 1,294,967,295; 2,147,483,647 and 2,147,483,648; 4,294,967,295 and 0; then
+    // 4,294,967,294 and 1. All are 4,294,967,295.
+    let pairs = [
+        ("00 5E D0 B2", "FF A1 2F 4D"),
+        ("FF FF FF 7F", "00 00 00 80"),
+        ("FF FF FF FF", "00 00 00 00"),
+        ("FE FF FF FF", "01 00 00 00"),
+    ];
+    for (one, two) in pairs {
+        for (one, two) in [(one, two), (two, one)] {
+            let ran = stepped(12, &sum_of(one, two, "00"), 3);
+            assert_eq!(ran.register(0, 0), (0, 4_294_967_295, 12));
+        }
+    }
+    let ran = stepped(12, &sum_of("FF FF FF 7F", "FF FF FF 7F", "00"), 3);
+    assert_eq!(ran.register(0, 0), (0, 4_294_967_294, 12));
+}
+
+#[test]
+fn add_is_blocked_when_the_sum_passes_the_top() {
+    // 3,000,000,000 and 1,294,967,296; 2,147,483,648 twice; 4,294,967,295 and 1; 4,294,967,294 and
+    // 2: all 4,294,967,296. The last two are more.
+    let pairs = [
+        ("00 5E D0 B2", "00 A2 2F 4D"),
+        ("00 00 00 80", "00 00 00 80"),
+        ("FF FF FF FF", "01 00 00 00"),
+        ("FE FF FF FF", "02 00 00 00"),
+        ("FF FF FF FF", "03 00 00 00"),
+        ("FF FF FF FF", "FF FF FF FF"),
+    ];
+    for (one, two) in pairs {
+        for r in ["00", "01", "02"] {
+            assert_answer_after(12, &sum_of(one, two, r), "50 00 50 00", "50 00", 1);
+            assert_answer_after(12, &sum_of(two, one, r), "50 00 50 00 50 00", "50 00", 1);
+        }
+    }
+}
+
+#[test]
+fn add_asks_for_plain_operands() {
     for value in ["41 01 00", "42 01 00"] {
         for operands in ["01 00", "00 01", "01 01"] {
             let steps = [value, "43 02", operands].join(" ");
