@@ -88,7 +88,7 @@ fn the_test_books_do_not_differ() {
 fn the_test_runs_do_not_differ() {
     let tally = chosen::runs(verified::run, machine::run).map_err(|found| found.0);
     let tally = tally.expect("verified (one) and reference (other) differ");
-    assert_eq!(tally.count(), 7_779);
+    assert_eq!(tally.count(), 9_159);
 }
 
 /// By both ways to call the writer.

@@ -15,6 +15,7 @@ mod refused;
 mod samples;
 #[cfg(test)]
 mod tests;
+mod top;
 
 use crate::cases::generate::Bytes;
 use crate::model::machine::{event, Lent, Outcome, Runner, CELLS_SIZE, JOBS_SIZE};
@@ -77,6 +78,7 @@ pub fn all() -> Vec<Run> {
         labels::runs(),
         full::runs(),
         again::runs(),
+        top::runs(),
         chance::runs(),
         refused::runs(),
         long::runs(),

@@ -92,6 +92,7 @@ impl Scene {
 #[derive(Clone, Copy)]
 pub enum Value {
     Plain,
+    Number(u32),
     Cell(u8),
     Code(u8),
 }
@@ -100,6 +101,7 @@ impl Value {
     fn kind_and_number(self) -> (u8, u32) {
         match self {
             Value::Plain => (0, 5),
+            Value::Number(number) => (0, number),
             Value::Cell(number) => (1, number.into()),
             Value::Code(number) => (2, number.into()),
         }

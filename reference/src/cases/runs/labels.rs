@@ -117,7 +117,8 @@ fn sources() -> Vec<Run> {
     runs
 }
 
-/// Operands of each pair of sources.
+/// Operands of each pair of sources. The second, where an outsider brings it, is too large for the
+/// sum, or just not.
 fn sums() -> Vec<Run> {
     let get = [name(0, 0), name(1, 1), read(2, 0), read(3, 1)];
     let sum = [add(4, 2, 3), new(5, 1, 4)];
@@ -126,13 +127,11 @@ fn sums() -> Vec<Run> {
     scene.declare(1, 0, Value::Plain);
     let book = scene.with_block(15, &[&get[..], &sum].concat()).book();
     let mut runs = Vec::new();
-    for one in 0..16 {
-        for two in 0..16 {
-            let touched = [touch(one, 0, plain(7)), touch(two, 1, plain(u32::MAX - 3))];
-            runs.push(Run::new(
-                book.clone(),
-                [touched.concat(), steps(0, 6)].concat(),
-            ));
+    for two in [u32::MAX - 3, u32::MAX - 7] {
+        for q in 0..=255 {
+            let touched = [touch(q / 16, 0, plain(7)), touch(q % 16, 1, plain(two))];
+            let events = [touched.concat(), steps(0, 6)].concat();
+            runs.push(Run::new(book.clone(), events));
         }
     }
     runs

@@ -2,6 +2,7 @@
 
 mod claim;
 mod coverage;
+mod top;
 
 use super::*;
 use crate::model::machine::event::{EXEC, NEW, RELABEL, START, STEP, WRITE};
