@@ -23,7 +23,7 @@ pub struct Difference {
 }
 
 /// Runs without end, the same for the same seed, which must not be 0.
-fn runs(seed: u64) -> impl Iterator<Item = Run> {
+pub(crate) fn runs(seed: u64) -> impl Iterator<Item = Run> {
     let mut dice = Dice::new(seed);
     (0..).map(move |number| any_run(&mut dice, number))
 }
@@ -114,6 +114,7 @@ fn any_lengths(dice: &mut Dice, mut lengths: [usize; 3]) -> [usize; 3] {
 #[cfg(test)]
 mod tests {
     use super::*;
+    use crate::cases::runs::sums::{play, TOP};
     use crate::model::machine::fast;
 
     #[test]
@@ -126,5 +127,20 @@ mod tests {
         let found = differ(1, 50, machine::run, forgetful, |_| {}).unwrap();
         assert_eq!(found.one.0, found.other.0);
         assert_ne!(found.one.1, found.other.1);
+    }
+
+    /// In 5,000 runs the greatest sum that fits, the least that does not, and greater ones.
+    #[test]
+    fn sums_about_the_top_are_met() {
+        let mut met = [0; 3];
+        for run in runs(1).take(5_000) {
+            let (_, sums) = play(&run);
+            let any = |holds: fn(u64) -> bool| sums.iter().any(|&sum| holds(sum));
+            met[0] += usize::from(any(|sum| sum == TOP - 1));
+            met[1] += usize::from(any(|sum| sum == TOP));
+            met[2] += usize::from(any(|sum| sum > TOP));
+        }
+        println!("{met:?} of 5,000 runs");
+        assert!(met.iter().all(|&count| count >= 20), "{met:?}");
     }
 }

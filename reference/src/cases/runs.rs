@@ -14,6 +14,8 @@ mod long;
 mod refused;
 mod samples;
 #[cfg(test)]
+pub(crate) mod sums;
+#[cfg(test)]
 mod tests;
 mod top;
 

@@ -41,13 +41,25 @@ pub type Lent = [Vec<u8>; 3];
 pub type Runner = fn(&[u8], &[u8], &mut Lent) -> Outcome;
 
 /// Runs a book on a list of events, both as bytes.
-pub fn run(book: &[u8], events: &[u8], [cells, jobs, answers]: &mut Lent) -> Outcome {
+pub fn run(book: &[u8], events: &[u8], lent: &mut Lent) -> Outcome {
+    run_by(book, events, lent, |machine, event| {
+        machine.take(event).answer()
+    })
+}
+
+/// The same with what takes an event and answers it. Only tests have another.
+pub(crate) fn run_by(
+    book: &[u8],
+    events: &[u8],
+    [cells, jobs, answers]: &mut Lent,
+    mut take: impl FnMut(&mut Machine, Event) -> u8,
+) -> Outcome {
     let (book, events) = admitted(book, events)?;
     check_tables(cells, jobs)?;
     check_answers(answers, events.len())?;
     let mut machine = Machine::new(&book);
     for (answer, event) in answers.iter_mut().zip(events) {
-        *answer = machine.take(event).answer();
+        *answer = take(&mut machine, event);
     }
     tables::write(&machine, cells, jobs);
     Ok(machine.in_use())

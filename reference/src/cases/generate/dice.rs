@@ -39,6 +39,15 @@ impl Dice {
         }
     }
 
+    /// A number of four bytes to be added to another such: the sum is often at the top of four
+    /// bytes, or next to it.
+    pub fn operand(&mut self) -> u32 {
+        match self.below(4) {
+            0 => self.number(),
+            _ => self.pick(&[0, 1, 2, (1 << 31) - 1, 1 << 31, u32::MAX]),
+        }
+    }
+
     pub fn pick<T: Copy>(&mut self, from: &[T]) -> T {
         from[self.below(from.len())]
     }

@@ -133,7 +133,7 @@ fn a_job(dice: &mut Dice, machine: &Machine) -> u8 {
 fn value(dice: &mut Dice, machine: &Machine) -> Brought {
     match dice.below(30) {
         0 => (dice.byte(), dice.number()),
-        1..=9 => (0, dice.number()),
+        1..=9 => (0, dice.operand()),
         10..=18 => (1, number(dice, machine.cells.len()).into()),
         _ => (2, number(dice, machine.book.blocks.len()).into()),
     }

@@ -8,7 +8,7 @@ use crate::cases::generate::records::{
 };
 use crate::cases::generate::Bytes;
 
-/// The most cells, blocks and steps in a block.
+/// The most cells, blocks and steps in a block behind its first puts, which are up to three.
 #[derive(Clone, Copy)]
 pub struct Most {
     pub cells: usize,
@@ -24,10 +24,11 @@ struct World {
     blocks: usize,
 }
 
-/// What a register is likely to be.
+/// What a register is likely to be; an operand is plain, and no longer the 0 that it was at first.
 #[derive(Clone, Copy, PartialEq, Eq)]
 enum Guess {
     Plain,
+    Operand,
     Cell,
     Code,
 }
@@ -64,7 +65,7 @@ fn label(dice: &mut Dice, c: u8) -> u8 {
 
 fn declared(dice: &mut Dice, world: &World) -> Bytes {
     let (kind, number) = match dice.below(3) {
-        0 => (0, dice.number()),
+        0 => (0, dice.operand()),
         1 => (1, dice.below(world.cells) as u32),
         _ => (2, dice.below(world.blocks) as u32),
     };
@@ -76,12 +77,20 @@ fn a_cell_shape(dice: &mut Dice, world: &World) -> u8 {
     (FIRST_CELL_SHAPE + dice.below(world.shapes - FIRST_CELL_SHAPE)) as u8
 }
 
+/// Up to three puts, so that there is something to add, and the steps behind them.
 fn steps(dice: &mut Dice, world: &World, most: usize) -> Draft {
     let mut guesses = [Guess::Plain; 8];
-    let count = dice.below(most + 1);
-    (0..count)
-        .map(|_| step(dice, world, &mut guesses))
-        .collect()
+    let (puts, count) = (dice.below(4), dice.below(most + 1));
+    let mut steps = Vec::new();
+    steps.extend((0..puts).map(|_| put_operand(dice, &mut guesses)));
+    steps.extend((0..count).map(|_| step(dice, world, &mut guesses)));
+    steps
+}
+
+fn put_operand(dice: &mut Dice, guesses: &mut [Guess; 8]) -> Bytes {
+    let r = dice.byte_below(8);
+    guesses[usize::from(r)] = Guess::Operand;
+    put(r, dice.operand())
 }
 
 /// A register that is likely to be so, or any if there is none; now and then any.
@@ -93,6 +102,12 @@ fn register(dice: &mut Dice, guesses: &[Guess; 8], guess: Guess) -> u8 {
         Some(number) if dice.below(12) > 0 => number as u8,
         _ => from as u8,
     }
+}
+
+/// A register that is likely to be plain, mostly an operand.
+fn operand(dice: &mut Dice, guesses: &[Guess; 8]) -> u8 {
+    let guess = dice.pick(&[Guess::Plain, Guess::Operand, Guess::Operand]);
+    register(dice, guesses, guess)
 }
 
 fn step(dice: &mut Dice, world: &World, guesses: &mut [Guess; 8]) -> Bytes {
@@ -113,13 +128,13 @@ fn step(dice: &mut Dice, world: &World, guesses: &mut [Guess; 8]) -> Bytes {
             new(r, a_cell_shape(dice, world), any)
         }
         5 | 6 => {
-            set(dice.pick(&[Guess::Plain, Guess::Cell, Guess::Code]));
+            set(dice.pick(&[Guess::Operand, Guess::Cell, Guess::Code]));
             read(r, w)
         }
         7 | 8 => {
-            let a = register(dice, guesses, Guess::Plain);
-            let b = register(dice, guesses, Guess::Plain);
-            guesses[usize::from(r)] = Guess::Plain;
+            let a = operand(dice, guesses);
+            let b = operand(dice, guesses);
+            guesses[usize::from(r)] = Guess::Operand;
             add(r, a, b)
         }
         9 | 10 => write(w, any),
@@ -127,9 +142,6 @@ fn step(dice: &mut Dice, world: &World, guesses: &mut [Guess; 8]) -> Bytes {
         12 if dice.below(2) == 0 => lower(dice.byte_below(16)),
         13 => start(dice.byte_below(world.blocks)),
         14 | 15 => exec(w),
-        _ => {
-            set(Guess::Plain);
-            put(r, dice.number())
-        }
+        _ => put_operand(dice, guesses),
     }
 }

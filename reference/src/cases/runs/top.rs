@@ -112,8 +112,8 @@ fn twice() -> Vec<Run> {
     runs
 }
 
-/// Job 0 reads 4,294,967,295 and adds a number. Unless that is 0 it is blocked for ever, whatever is
-/// written to the cell then: by an outsider, by job 1, or by both. Job 1 goes on, and a job that
+/// Job 0 reads 4,294,967,295 and adds a number. Unless that is 0 it is blocked for ever, whatever
+/// is written to the cell then: by an outsider, by job 1, or by both. Job 1 goes on, and a job that
 /// begins later adds what it finds in the cell.
 pub fn for_ever() -> Vec<Run> {
     let (by_outsider, by_job) = (events::write(2, 0, plain(7)), steps(1, 5));
