@@ -1,5 +1,6 @@
 //! What the file of test runs must hold.
 
+mod before;
 mod claim;
 mod coverage;
 mod top;
