@@ -105,7 +105,7 @@ fn register(dice: &mut Dice, guesses: &[Guess; 8], guess: Guess) -> u8 {
 }
 
 /// A register that is likely to be plain, mostly an operand.
-fn operand(dice: &mut Dice, guesses: &[Guess; 8]) -> u8 {
+fn operand_register(dice: &mut Dice, guesses: &[Guess; 8]) -> u8 {
     let guess = dice.pick(&[Guess::Plain, Guess::Operand, Guess::Operand]);
     register(dice, guesses, guess)
 }
@@ -132,8 +132,8 @@ fn step(dice: &mut Dice, world: &World, guesses: &mut [Guess; 8]) -> Bytes {
             read(r, w)
         }
         7 | 8 => {
-            let a = operand(dice, guesses);
-            let b = operand(dice, guesses);
+            let a = operand_register(dice, guesses);
+            let b = operand_register(dice, guesses);
             guesses[usize::from(r)] = Guess::Operand;
             add(r, a, b)
         }
