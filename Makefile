@@ -23,7 +23,7 @@ $(archive): always
 # The linker refuses code that is not position independent (-z text) and names that no library has (-z defs).
 $(library): $(archive) Makefile
 	@mkdir -p target/install
-	$(CC) $(LDFLAGS) -shared -Wl,-soname,libxemdulba.so.0 -Wl,-z,text -Wl,-z,defs -o $@.new \
+	$(CC) $(LDFLAGS) -shared -Wl,-soname,libxemdulba.so.1 -Wl,-z,text -Wl,-z,defs -o $@.new \
 	    -Wl,--whole-archive $(archive) -Wl,--no-whole-archive
 	@mv $@.new $@
 

@@ -473,7 +473,7 @@ struct xemdulba_checked limit_check(const uint8_t *book, size_t length)
     return (struct xemdulba_checked){0, 0, outline.shapes, outline.cells, outline.blocks, outline.steps};
 }
 
-/* ---- Running: refusals 9 to 11, and the machine ---- */
+/* ---- Running: refusals 9 to 11 and 14, and the machine ---- */
 
 /* The source is the lowest label of the history, which is not kept. */
 struct value {
@@ -810,8 +810,14 @@ static void play(struct machine *machine, const uint8_t *event, const uint8_t *e
     }
 }
 
+/* The launch label, or the default. */
+static uint32_t launch_label(const struct outline *outline, uint32_t launch)
+{
+    return launch == XEMDULBA_DEFAULT_LAUNCH ? lower_of(outline->c + 1, outline->bound[0]) : launch;
+}
+
 /* The declared cells, and job 0. */
-static void begin(struct machine *machine, const uint8_t *book, size_t length)
+static void begin(struct machine *machine, const uint8_t *book, size_t length, uint8_t launch)
 {
     const struct outline *outline = &machine->outline;
 
@@ -822,7 +828,7 @@ static void begin(struct machine *machine, const uint8_t *book, size_t length)
         const uint8_t *record = outline->cell[i];
         make_cell(machine, record[1], record[2], (struct value){number_at(record + 4), record[3], TOP_LABEL});
     }
-    start_job(machine, 0, outline->bound[0], outline->bound[0]);
+    start_job(machine, 0, launch, launch);
 }
 
 static void store_value(uint8_t *field, struct value value)
@@ -866,17 +872,23 @@ static void store_jobs(const struct machine *machine, uint8_t *jobs)
     memset(record, 0, (size_t)(end - record));
 }
 
-struct xemdulba_ran limit_run(const uint8_t *book, size_t length, const uint8_t *list, size_t list_length, uint8_t *cells,
-                              size_t cells_length, uint8_t *jobs, size_t jobs_length, uint8_t *answers, size_t answers_length)
+struct xemdulba_ran limit_run(const uint8_t *book, size_t length, uint32_t launch, const uint8_t *list, size_t list_length,
+                              uint8_t *cells, size_t cells_length, uint8_t *jobs, size_t jobs_length, uint8_t *answers,
+                              size_t answers_length)
 {
+    const struct xemdulba_ran refused = {REFUSED, 0, 0, 0};
     struct machine machine;
     size_t events;
 
     if (!read_book(&machine.outline, book, length) || !count_events(list, list_length, &events) ||
         cells_length != XEMDULBA_CELLS_SIZE || jobs_length != XEMDULBA_JOBS_SIZE || answers_length < events) {
-        return (struct xemdulba_ran){REFUSED, 0, 0, 0};
+        return refused;
     }
-    begin(&machine, book, length);
+    launch = launch_label(&machine.outline, launch);
+    if (launch > machine.outline.bound[0]) {
+        return refused;
+    }
+    begin(&machine, book, length, (uint8_t)launch);
     play(&machine, list, list + list_length, answers);
     store_cells(&machine, cells);
     store_jobs(&machine, jobs);

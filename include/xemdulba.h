@@ -20,13 +20,15 @@ extern "C" {
 #endif
 
 /* The version that this header declares. */
-#define XEMDULBA_VERSION "0.1.0"
+#define XEMDULBA_VERSION "0.2.0"
 
-/* The change requests from one to this number hold: one is the writer, two blocks sums that pass the top. */
-#define XEMDULBA_REQUEST 2
+/* The change requests from one to this number hold: one is the writer, two blocks sums that pass the top, three launches
+ * low by default. A call whose parameters a request changes is changed in place: what was compiled with an older header has to be
+ * compiled again, and a call of the older form does not compile. */
+#define XEMDULBA_REQUEST 3
 
 /* The refusals, and what the rule of each says. A refusal has a place: the offset of the first record at fault in the book, or of the
- * first event at fault in the list for 9. It is 0 for 1 and for 10 to 13, where a list is too long, and where the first record is
+ * first event at fault in the list for 9. It is 0 for 1 and for 10 to 14, where a list is too long, and where the first record is
  * missing, and the book's length where no block stands. The first in this order that holds is the one that is reported. The places of
  * a book that is not written, and what else refuses one by 2 and 5, stand at xemdulba_write. */
 enum xemdulba_refusal {
@@ -57,7 +59,9 @@ enum xemdulba_refusal {
     /* the block asked for does not exist */
     XEMDULBA_REFUSED_BLOCK = 12,
     /* the output buffer is too short */
-    XEMDULBA_REFUSED_OUTPUT = 13
+    XEMDULBA_REFUSED_OUTPUT = 13,
+    /* the launch label is above block 0's bound */
+    XEMDULBA_REFUSED_LAUNCH = 14
 };
 
 /* The verdict on a book. Accepted: refusal 0, place 0, and how many shapes, cells, blocks and steps the book has. Refused, by 1 to 8:
@@ -80,8 +84,8 @@ struct xemdulba_stretch {
     uint32_t length;
 };
 
-/* What a run gives. It ran: refusal 0, place 0, and how many cells and jobs are in use, at most 64 of each. Refused, by 1 to 6 or 9 to
- * 11: the number and the place, and both counts are 0. */
+/* What a run gives. It ran: refusal 0, place 0, and how many cells and jobs are in use, at most 64 of each. Refused, by 1 to 6, 9
+ * to 11 or 14: the number and the place, and both counts are 0. */
 struct xemdulba_ran {
     uint32_t refusal;
     uint32_t place;
@@ -157,8 +161,14 @@ struct xemdulba_told xemdulba_record(const uint8_t *book, size_t length, size_t 
  * fields of a kind stand at xemdulba_run. */
 struct xemdulba_told xemdulba_event(const uint8_t *list, size_t length, size_t offset);
 
-/* Runs the events of a list on a book from its start, whether or not the book is accepted. An event is its kind and then its fields, of
- * one byte each but for a number of 4:
+/* The launch label that stands for none. */
+#define XEMDULBA_DEFAULT_LAUNCH 0xFFFFFFFFu
+
+/* Runs the events of a list on a book from its start, whether or not the book is accepted. Job 0 runs block 0 at the label `launch`,
+ * which is also its history; with XEMDULBA_DEFAULT_LAUNCH at the smaller of C plus 1 and the bound of block 0. Any other number above
+ * that bound is refused by 14. Of a book that xemdulba_block does not refuse, the bound is the byte before the stretch of
+ * block 0, for who wants a launch at the bound; where it refuses the book, the run is refused likewise, whatever `launch` is. An event
+ * is its kind and then its fields, of one byte each but for a number of 4:
  *   80 a step of a job: job
  *   by an outsider at a label:
  *   81 write: label, cell, value kind, number        82 relabel: label, cell, label        83 new: label, shape, value kind, number
@@ -167,8 +177,9 @@ struct xemdulba_told xemdulba_event(const uint8_t *list, size_t length, size_t o
  * blocked unless both operands are plain and their exact sum is at most 4,294,967,295; xemdulba-book(5) has each step. Bytes of
  * `answers` beyond the events keep their contents. What `cells`, `jobs` and `answers` held before plays no part. On a refusal
  * nothing is written. The caller sees to it that `cells`, `jobs` and `answers` overlap neither each other nor the book or the list. */
-struct xemdulba_ran xemdulba_run(const uint8_t *book, size_t length, const uint8_t *list, size_t list_length, uint8_t *cells,
-                                 size_t cells_length, uint8_t *jobs, size_t jobs_length, uint8_t *answers, size_t answers_length);
+struct xemdulba_ran xemdulba_run(const uint8_t *book, size_t length, uint32_t launch, const uint8_t *list, size_t list_length,
+                                 uint8_t *cells, size_t cells_length, uint8_t *jobs, size_t jobs_length, uint8_t *answers,
+                                 size_t answers_length);
 
 /* Writes the book of C and these tables to the start of `out`: C, the shapes, the cells, and each block with its steps behind it, which
  * are the next so many rows of the steps as the block's row says. A table has as many rows as whole rows fit in its length; bytes behind

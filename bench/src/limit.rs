@@ -39,6 +39,7 @@ extern "C" {
     fn limit_run(
         book: *const u8,
         length: usize,
+        launch: u32,
         list: *const u8,
         list_length: usize,
         cells: *mut u8,
@@ -79,14 +80,23 @@ pub fn check(book: &[u8]) -> Verdict {
     }
 }
 
+/// As `XEMDULBA_DEFAULT_LAUNCH` of include/xemdulba.h.
+const DEFAULT_LAUNCH: u32 = 0xFFFF_FFFF;
+
 /// A `machine::Runner`. All that is refused is refused by 99 at place 0.
-pub fn run(book: &[u8], events: &[u8], [cells, jobs, answers]: &mut Lent) -> Outcome {
+pub fn run(
+    book: &[u8],
+    launch: Option<u32>,
+    events: &[u8],
+    [cells, jobs, answers]: &mut Lent,
+) -> Outcome {
     // SAFETY: pointers and lengths are those of slices, and the three that are written to are lent
     // as `&mut`, so that they overlap nothing.
     let ran = unsafe {
         limit_run(
             book.as_ptr(),
             book.len(),
+            launch.unwrap_or(DEFAULT_LAUNCH),
             events.as_ptr(),
             events.len(),
             cells.as_mut_ptr(),
@@ -161,8 +171,8 @@ mod tests {
         }
     }
 
-    fn expected_run(book: &[u8], events: &[u8], lent: &mut Lent) -> Outcome {
-        fast::run(book, events, lent).map_err(|_| REFUSED)
+    fn expected_run(book: &[u8], launch: Option<u32>, events: &[u8], lent: &mut Lent) -> Outcome {
+        fast::run(book, launch, events, lent).map_err(|_| REFUSED)
     }
 
     #[test]

@@ -25,7 +25,7 @@ const SCRATCH: u8 = 3;
 /// the hedge and blocked, and a relabel of the scratch cell.
 const OPTION_EVENTS: &[u8] = include_bytes!("../option.events");
 
-/// The rows: a name, and the run.
+/// The rows: a name, and the run, which is launched at the bound.
 pub const ROWS: [(&str, fn() -> Run); 8] = [
     ("A1", || steps(BOOK_A, 4)),
     ("one option", one_option),
@@ -89,8 +89,8 @@ fn compare(run: &Run) -> Times {
 pub fn call(runner: Runner, run: &Run) -> impl FnMut() + '_ {
     let mut lent = run.lengths.map(|length| vec![0; length]);
     move || {
-        let (book, events) = black_box((&run.book, &run.events));
-        let outcome = runner(book, events, &mut lent);
+        let (book, launch, events) = black_box((&run.book, run.launch, &run.events));
+        let outcome = runner(book, launch, events, &mut lent);
         black_box(&outcome).as_ref().expect("it runs");
     }
 }

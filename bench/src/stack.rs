@@ -35,8 +35,8 @@ fn measure_check(name: &str, book: &[u8]) {
 fn measure_run(name: &str, run: &Run) {
     let mut lent = run.lengths.map(|length| vec![0; length]);
     let used = stack_used(&mut || {
-        let (book, events) = black_box((&run.book, &run.events));
-        let outcome = verified::run(book, events, &mut lent);
+        let (book, launch, events) = black_box((&run.book, run.launch, &run.events));
+        let outcome = verified::run(book, launch, events, &mut lent);
         black_box(&outcome).as_ref().expect("it runs");
     });
     println!("run    {name:<12}{:>8}{used:>14}", lent[2].len());

@@ -1,4 +1,4 @@
-/* desk BOOK EVENTS: checks a book and, where it is accepted, runs it on a list of events.
+/* desk BOOK EVENTS: checks a book and, where it is accepted, runs it on a list of events, with job 0 at the bound of block 0.
  * Exit status: 0 it ran, 1 refused, 2 no answer, or it cannot be written.
  *
  * From the repository's folder, once `rt staticlib xemdulba` has written the library:
@@ -98,6 +98,12 @@ static int refused(uint32_t refusal, uint32_t place)
     return 1;
 }
 
+/* The bound of block 0, of a book that is accepted: the byte before the block's steps. */
+static uint32_t bound(size_t book_length)
+{
+    return book[xemdulba_block(book, book_length, 0).start - 1];
+}
+
 /* Prints the verdict and what the run gives, and returns the exit status. */
 static int desk(size_t book_length, size_t list_length)
 {
@@ -111,7 +117,8 @@ static int desk(size_t book_length, size_t list_length)
     printf(" blocks %" PRIu32 " steps %" PRIu32 "\n", checked.blocks, checked.steps);
 
     memset(answers, UNANSWERED, sizeof answers);
-    ran = xemdulba_run(book, book_length, list, list_length, cells, sizeof cells, jobs, sizeof jobs, answers, sizeof answers);
+    ran = xemdulba_run(book, book_length, bound(book_length), list, list_length, cells, sizeof cells, jobs, sizeof jobs, answers,
+                       sizeof answers);
     if (ran.refusal != XEMDULBA_NOT_REFUSED) {
         return refused(ran.refusal, ran.place);
     }

@@ -1,5 +1,5 @@
-"""The sample books and runs of document 01, the tables of docs/FORMAT.md, the books that are written by document 02's request one, and
-what the module accepts."""
+"""The sample books and runs of document 01, the tables of docs/FORMAT.md, the books that are written by document 02's request one, the
+launch labels of its request three, and what the module accepts."""
 
 import array
 import ctypes
@@ -25,6 +25,11 @@ BOOK_A6 = BOOK_A[:25] + bytes.fromhex("47 00 08")
 FOUR_STEPS = bytes.fromhex("50 00 50 00 50 00 50 00")
 
 
+def run_at_bound(book, events):
+    """A run with "job 0 runs block 0 at its bound": 01's runs relied on it, so they pass it."""
+    return xemdulba.run(book, events, xemdulba.bound(book))
+
+
 class Refusing(unittest.TestCase):
     def assert_refused(self, number, place, call, *arguments):
         with self.assertRaises(Refusal) as caught:
@@ -44,7 +49,7 @@ class Samples(Refusing):
 
     def test_the_empty_book_is_refused(self):
         self.assert_refused(3, 0, xemdulba.check, b"")
-        self.assert_refused(3, 0, xemdulba.run, b"", b"")
+        self.assert_refused(3, 0, run_at_bound, b"", b"")
         self.assert_refused(3, 0, xemdulba.stretch, b"", 0)
 
     def test_a_stretch_is_the_steps_of_its_block(self):
@@ -54,7 +59,7 @@ class Samples(Refusing):
         self.assert_refused(12, 0, xemdulba.stretch, BOOK_A, 2**32 - 1)
 
     def test_four_steps_of_book_a(self):
-        run = xemdulba.run(BOOK_A, FOUR_STEPS)
+        run = run_at_bound(BOOK_A, FOUR_STEPS)
         self.assertEqual(run.answers, (Answer.DONE, Answer.DONE, Answer.DONE, Answer.NO_STEP_LEFT))
         self.assertEqual(run.cells, (Cell(1, 9, 9, Value(Kind.PLAIN, 7, 12)),))
         (job,) = run.jobs
@@ -63,28 +68,114 @@ class Samples(Refusing):
         self.assertEqual(job.registers[2:], (Value(Kind.PLAIN, 0, 12),) * 6)
 
     def test_four_steps_with_bound_8(self):
-        run = xemdulba.run(BOOK_A2, FOUR_STEPS)
+        run = run_at_bound(BOOK_A2, FOUR_STEPS)
         self.assertEqual(run.answers, (0, 0, 1, 1))
         self.assertEqual(run.cells[0].value, Value(Kind.PLAIN, 5, 15))
 
     def test_an_outsider_is_blocked_or_above_c(self):
         for label, answer in ((3, Answer.BLOCKED), (4, Answer.NO_SUCH)):
-            run = xemdulba.run(BOOK_A, bytes([0x51, label, 0, 0, 7, 0, 0, 0]))
+            run = run_at_bound(BOOK_A, bytes([0x51, label, 0, 0, 7, 0, 0, 0]))
             self.assertEqual(run.answers, (answer,))
             self.assertEqual(run.cells[0].value.number, 5)
 
     def test_lists_are_refused(self):
-        self.assert_refused(9, 6, xemdulba.run, BOOK_A, FOUR_STEPS[:7])
-        self.assert_refused(9, 0, xemdulba.run, BOOK_A, bytes(65_537))
+        self.assert_refused(9, 6, run_at_bound, BOOK_A, FOUR_STEPS[:7])
+        self.assert_refused(9, 0, run_at_bound, BOOK_A, bytes(65_537))
         self.assert_refused(1, 0, xemdulba.check, bytes(32_769))
 
     def test_the_longest_list_has_an_answer_for_each_event(self):
-        answers = xemdulba.run(BOOK_A, b"\x50\x00" * 32_768).answers
+        answers = run_at_bound(BOOK_A, b"\x50\x00" * 32_768).answers
         self.assertEqual(answers, (0, 0, 0) + (2,) * 32_765)
 
     def test_numbers_are_read_from_four_bytes(self):
         book = BOOK_A[:10] + bytes.fromhex("01 02 03 F4") + BOOK_A[14:]
-        self.assertEqual(xemdulba.run(book, b"").cells[0].value.number, 0xF4030201)
+        self.assertEqual(run_at_bound(book, b"").cells[0].value.number, 0xF4030201)
+
+
+def least(c, bound):
+    """A book of this C and a block of this bound, with no steps."""
+    return bytes([0x01, c, 0x30, bound])
+
+
+# Books that cannot be read, and why.
+UNREADABLE = {
+    bytes(32_769): (1, 0),
+    BOOK_A[:27]: (2, 25),
+    b"": (3, 0),
+    b"\x01\x03": (3, 2),
+    b"\x01\x03" + b"\x10" * 33 + b"\x30\x0C": (4, 2 + 32),
+    least(15, 0): (5, 0),
+    least(3, 16): (5, 2),
+    least(3, 12) + b"\x49\x01": (6, 4),
+}
+
+
+class Launched(Refusing):
+    def test_book_a_is_launched_low(self):
+        """C is 3 and the bound 12, so that job 0 is at 4: the cell's label 9 is above it, and the third step is blocked, twice."""
+        run = xemdulba.run(BOOK_A, FOUR_STEPS)
+        self.assertEqual(run.answers, (0, 0, 1, 1))
+        self.assertEqual(run.cells, (Cell(1, 9, 9, Value(Kind.PLAIN, 5, 15)),))
+        (job,) = run.jobs
+        self.assertEqual(job[:4], (0, 2, 4, 4))
+        self.assertEqual(job.registers[:2], (Value(Kind.CELL, 0, 4), Value(Kind.PLAIN, 7, 4)))
+        self.assertEqual(job.registers[2:], (Value(Kind.PLAIN, 0, 4),) * 6)
+        self.assertEqual(run, xemdulba.run(BOOK_A, FOUR_STEPS, None))
+        self.assertEqual(run, xemdulba.run(BOOK_A, FOUR_STEPS, launch=4))
+
+    def test_book_a_at_every_label_up_to_the_bound(self):
+        """The cell's label is 9: from there on the third step is done, and leaves the job's history."""
+        for label in range(13):
+            run = xemdulba.run(BOOK_A, FOUR_STEPS, label)
+            self.assertEqual(run.answers, (0, 0, 0, 2) if label >= 9 else (0, 0, 1, 1))
+            self.assertEqual(run.cells[0].value.source, label if label >= 9 else 15)
+            self.assertEqual((run.jobs[0].label, run.jobs[0].source), (label, label))
+
+    def test_by_default_it_is_the_smaller_of_c_plus_1_and_the_bound(self):
+        for c in range(15):
+            for bound in range(16):
+                (job,) = xemdulba.run(least(c, bound), b"").jobs
+                self.assertEqual((job.label, job.source), (min(c + 1, bound),) * 2)
+
+    def test_a_label_above_the_bound_is_refused(self):
+        for label in (13, 15, 16, 255, 256, 256 + 12, 2**32 - 2):
+            self.assert_refused(14, 0, xemdulba.run, BOOK_A, FOUR_STEPS, label)
+        for bound in range(16):
+            xemdulba.run(least(3, bound), b"", bound)
+            self.assert_refused(14, 0, xemdulba.run, least(3, bound), b"", bound + 1)
+
+    def test_a_refusal_by_14_has_its_words(self):
+        with self.assertRaises(Refusal) as caught:
+            xemdulba.run(BOOK_A, b"", 13)
+        self.assertEqual(caught.exception.rule, "the launch label is above block 0's bound")
+
+    def test_other_refusals_come_first(self):
+        self.assert_refused(9, 6, xemdulba.run, BOOK_A, FOUR_STEPS[:7], 13)
+        self.assert_refused(5, 0, xemdulba.run, least(15, 0), FOUR_STEPS[:7], 13)
+        with mock.patch.object(xemdulba, "_LONGEST_LIST", 6):  # three answers
+            self.assert_refused(11, 0, xemdulba.run, BOOK_A, FOUR_STEPS, 13)
+            with mock.patch.object(xemdulba, "TABLE", 63):
+                self.assert_refused(10, 0, xemdulba.run, BOOK_A, FOUR_STEPS, 13)
+                self.assert_refused(9, 6, xemdulba.run, BOOK_A, FOUR_STEPS[:7], 13)
+
+    def test_the_bound_is_that_of_block_0(self):
+        self.assertEqual((xemdulba.bound(BOOK_A), xemdulba.bound(BOOK_A2), xemdulba.bound(BOOK_A6)), (12, 8, 12))
+        for bound in range(16):
+            self.assertEqual(xemdulba.bound(least(3, bound)), bound)
+            self.assertEqual(xemdulba.bound(least(3, bound) + b"\x48\x00\x30\x05"), bound)
+
+    def test_a_book_that_cannot_be_read_has_no_bound(self):
+        for book, (number, place) in UNREADABLE.items():
+            self.assert_refused(number, place, xemdulba.bound, book)
+            for launch in (None, 0, 16):
+                self.assert_refused(number, place, xemdulba.run, book, b"", launch)
+
+    def test_a_launch_is_a_number_below_the_one_for_none(self):
+        for launch in (-1, 2**32 - 1, 2**32, 2**64):
+            self.assertRaises(ValueError, xemdulba.run, BOOK_A, b"", launch)
+        for launch in ("12", 12.0, b"\x0C", True, False):
+            self.assertRaises(TypeError, xemdulba.run, BOOK_A, b"", launch)
+        self.assertRaises(ValueError, xemdulba.run, b"", b"", -1)
 
 
 # Bytes of a record or an event of each kind, then its fields of one byte, absent ones 0, and its number.
@@ -385,7 +476,7 @@ class Words(unittest.TestCase):
     def test_the_rules_are_the_headers(self):
         listed = HEADER.split("enum xemdulba_refusal {")[1].split("};")[0]
         commented = re.findall(r"/\*(.*?)\*/\s*XEMDULBA_REFUSED_\w+ = (\d+)", listed, re.DOTALL)
-        self.assertEqual([int(number) for _, number in commented], list(range(1, 14)))
+        self.assertEqual([int(number) for _, number in commented], list(range(1, 15)))
         for comment, number in commented:
             words = " ".join(word for word in comment.split() if word != "*")
             self.assertEqual(Refusal(int(number), 0).rule, words)
@@ -396,7 +487,7 @@ class Words(unittest.TestCase):
         self.assertEqual(sorted((int(number), name) for number, name in shown), [(int(number), name) for name, number in listed])
 
     def test_other_numbers_have_no_rule(self):
-        for number in (-1, 0, 14):
+        for number in (-1, 0, 15):
             self.assertEqual(Refusal(number, 0).rule, "no refusal has this number")
 
     def test_a_refusal_has_the_words_of_its_rule(self):
@@ -411,7 +502,7 @@ class Words(unittest.TestCase):
 
     def test_the_sizes_of_a_writing_are_the_headers(self):
         sizes = {
-            "REQUEST": 2,
+            "REQUEST": 3,
             "SHAPE_ROW": xemdulba._SHAPE_ROW.size,
             "CELL_ROW": xemdulba._CELL_ROW.size,
             "BLOCK_ROW": xemdulba._BLOCK_ROW.size,
@@ -420,6 +511,9 @@ class Words(unittest.TestCase):
         }
         for name, size in sizes.items():
             self.assertIn(f"\n#define XEMDULBA_{name} {size}\n", HEADER)
+
+    def test_the_default_launch_is_the_headers(self):
+        self.assertIn(f"\n#define XEMDULBA_DEFAULT_LAUNCH 0x{_library.DEFAULT_LAUNCH:08X}u\n", HEADER)
 
     def test_the_kit_is_a_line(self):
         self.assertRegex(xemdulba.KIT, r"\A\S[^\n]*\S\Z")
@@ -472,7 +566,8 @@ class Types(unittest.TestCase):
             book, events = sort(BOOK_A), sort(FOUR_STEPS)
             self.assertEqual(xemdulba.check(book).steps, 3)
             self.assertEqual(bytes(xemdulba.stretch(book, 0)), BOOK_A[16:])
-            self.assertEqual(xemdulba.run(book, events).answers, (0, 0, 0, 2))
+            self.assertEqual(xemdulba.bound(book), 12)
+            self.assertEqual(run_at_bound(book, events).answers, (0, 0, 0, 2))
             self.assertEqual(xemdulba.record(book, 14), Fields(48, 12, 0, 0, 0, 16))
             self.assertEqual(xemdulba.event(events, 6), Fields(80, 0, 0, 0, 0, 8))
             self.assertEqual(xemdulba.tables(book), TABLES_A)
@@ -483,7 +578,8 @@ class Types(unittest.TestCase):
             self.assertEqual(len(book), 1_000_000)
             self.assertEqual(xemdulba.check(book), (2, 1, 1, 3))
             self.assertEqual(bytes(xemdulba.stretch(book, 0)), BOOK_A[16:])
-            self.assertEqual(xemdulba.run(book, events).answers, (0, 0, 0, 2))
+            self.assertEqual(xemdulba.bound(book), 12)
+            self.assertEqual(run_at_bound(book, events).answers, (0, 0, 0, 2))
             self.assertEqual(xemdulba.record(book, 25), Fields(70, 0, 1, 0, 0, 28))
             self.assertIsNone(xemdulba.record(book, 28))
             self.assertIsNone(xemdulba.event(events, 8))
@@ -513,6 +609,7 @@ class Types(unittest.TestCase):
             self.assertRaises(TypeError, xemdulba.stretch, book, 0)
             self.assertRaises(TypeError, xemdulba.run, book, b"")
             self.assertRaises(TypeError, xemdulba.run, BOOK_A, book)
+            self.assertRaises(TypeError, xemdulba.bound, book)
             self.assertRaises(TypeError, xemdulba.record, book, 0)
             self.assertRaises(TypeError, xemdulba.event, book, 0)
             self.assertRaises(TypeError, xemdulba.tables, book)

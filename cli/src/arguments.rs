@@ -2,6 +2,7 @@
 
 use crate::files::{self, Content};
 use crate::help;
+use crate::launch::{self, Launch};
 use crate::nearest::nearest;
 use crate::verbs::{Flag, Verb};
 use std::ffi::{OsStr, OsString};
@@ -15,6 +16,8 @@ pub struct Options {
     pub bytes: bool,
     /// What the files hold.
     pub content: Content,
+    /// The label that a run is launched at.
+    pub launch: Launch,
 }
 
 /// What is asked.
@@ -75,44 +78,104 @@ fn parse_alone(flag: Flag, rest: &[OsString]) -> Result<Request, String> {
 
 /// What stands behind a verb.
 fn parse_verb(verb: Verb, rest: &[OsString]) -> Result<Request, String> {
-    let (flags, files) = split(verb, rest)?;
-    let has = |flag| flags.contains(&flag);
-    let json = has(Flag::Json);
-    if has(Flag::Help) {
+    let given = split(verb, rest)?;
+    let json = given.has(Flag::Json);
+    if given.has(Flag::Help) {
         let verb = Some(verb);
         return Ok(Request::Help { verb, json });
     }
-    let content = match (has(Flag::Hex), has(Flag::Raw)) {
-        (true, true) => return Err("either --hex or --raw, not both".to_string()),
-        (true, false) => Content::Text,
-        (false, true) => Content::Bytes,
-        (false, false) => Content::Unsaid,
-    };
     let options = Options {
         json,
-        bytes: has(Flag::Bytes),
-        content,
+        bytes: given.has(Flag::Bytes),
+        content: content(&given)?,
+        launch: launch(&given)?,
     };
-    request(verb, files, options)
+    request(verb, given.files, options)
+}
+
+/// What stands behind a verb: the options, each with its value if it takes one, and other words.
+#[derive(Default)]
+struct Given {
+    options: Vec<(Flag, Option<String>)>,
+    files: Vec<OsString>,
+}
+
+impl Given {
+    fn has(&self, flag: Flag) -> bool {
+        self.options.iter().any(|(given, _)| *given == flag)
+    }
+
+    /// The value of an option that may stand once.
+    fn value(&self, flag: Flag) -> Result<Option<&str>, String> {
+        let mut options = self.options.iter().filter(|(given, _)| *given == flag);
+        match (options.next(), options.next()) {
+            (_, Some(_)) => Err(format!("'{}' stands once at most", flag.name())),
+            (option, None) => Ok(option.and_then(|(_, value)| value.as_deref())),
+        }
+    }
 }
 
 /// The options and the other words. Behind `--` no word is an option.
-fn split(verb: Verb, rest: &[OsString]) -> Result<(Vec<Flag>, Vec<OsString>), String> {
-    let is_end = |word: &OsString| word == "--";
-    let end = rest.iter().position(is_end).unwrap_or(rest.len());
-    let (mut flags, mut files) = (Vec::new(), Vec::new());
-    for word in &rest[..end] {
-        if !word.as_encoded_bytes().starts_with(b"-") || files::is_input(word) {
-            files.push(word.clone());
-            continue;
+fn split(verb: Verb, rest: &[OsString]) -> Result<Given, String> {
+    let mut given = Given::default();
+    let mut words = rest.iter();
+    while let Some(word) = words.next() {
+        if word == "--" {
+            given.files.extend(words.cloned());
+            break;
         }
-        match Flag::of(word).filter(|flag| verb.flags().contains(flag)) {
-            Some(flag) => flags.push(flag),
-            None => return Err(no_option(verb, word)),
+        if word.as_encoded_bytes().starts_with(b"-") && !files::is_input(word) {
+            let option = option(verb, word, &mut words)?;
+            given.options.push(option);
+        } else {
+            given.files.push(word.clone());
         }
     }
-    files.extend(rest.iter().skip(end + 1).cloned());
-    Ok((flags, files))
+    Ok(given)
+}
+
+/// An option, and its value if it takes one: behind `=`, or the next word.
+fn option<'w>(
+    verb: Verb,
+    word: &OsStr,
+    next: &mut impl Iterator<Item = &'w OsString>,
+) -> Result<(Flag, Option<String>), String> {
+    // What is no text is replaced, and then names no option and is no value of one.
+    let text = word.to_string_lossy();
+    let (name, behind) = match text.split_once('=') {
+        Some((name, value)) => (name, Some(value.to_string())),
+        None => (&*text, None),
+    };
+    let is_right =
+        |flag: &Flag| verb.flags().contains(flag) && (behind.is_none() || flag.takes().is_some());
+    let Some(flag) = Flag::of(OsStr::new(name)).filter(is_right) else {
+        return Err(no_option(verb, word));
+    };
+    let Some(takes) = flag.takes() else {
+        return Ok((flag, None));
+    };
+    let value = behind.or_else(|| Some(next.next()?.to_string_lossy().into_owned()));
+    let value = value.ok_or_else(|| format!("'{}' takes {takes}", flag.name()))?;
+    Ok((flag, Some(value)))
+}
+
+fn content(given: &Given) -> Result<Content, String> {
+    match (given.has(Flag::Hex), given.has(Flag::Raw)) {
+        (true, true) => Err("either --hex or --raw, not both".to_string()),
+        (true, false) => Ok(Content::Text),
+        (false, true) => Ok(Content::Bytes),
+        (false, false) => Ok(Content::Unsaid),
+    }
+}
+
+fn launch(given: &Given) -> Result<Launch, String> {
+    let Some(word) = given.value(Flag::Launch)? else {
+        return Ok(Launch::Low);
+    };
+    Launch::of(word).ok_or_else(|| {
+        let (name, word) = (Flag::Launch.name(), shown(OsStr::new(word)));
+        format!("'{name}' takes {}, not '{word}'", launch::LABELS)
+    })
 }
 
 /// The request of a verb on files: so many as it takes, and standard input once at most.

@@ -16,12 +16,13 @@ usage: xemdulba check FILE..       the verdict on each book
 
 const OVERVIEW: &str = "
 Options, anywhere behind the verb:
-  --json     one object to a line
-  --bytes    the bytes of each record too (list, events)
-  --hex      every file is hexadecimal text
-  --raw      every file is bytes
-  --help     help on the verb (-h)
-  --         what follows are files
+  --launch LABEL    job 0 begins at this label: 0 to 15, or bound (run)
+  --json            one object to a line
+  --bytes           the bytes of each record too (list, events)
+  --hex             every file is hexadecimal text
+  --raw             every file is bytes
+  --help            help on the verb (-h)
+  --                what follows are files
 
 A file holds bytes, or hexadecimal text: two digits for each byte, white space
 and commas. A file named *.hex, or any with --hex, is text, and may have
@@ -54,11 +55,15 @@ Runs the events on the book from its start, and prints an answer for each event
 refused N at PLACE. A book that check refuses is run too, with a word on
 standard error.
 
-  --json     one object to a line
-  --hex      both files are hexadecimal text
-  --raw      both files are bytes
+  --launch LABEL    job 0 begins at this label, from 0 to 15, which is also its
+                    history; refused by 14 above the bound of block 0
+  --launch bound    job 0 begins at that bound; without --launch at the smaller
+                    of C plus 1 and the bound
+  --json            one object to a line
+  --hex             both files are hexadecimal text
+  --raw             both files are bytes
 
-  $ xemdulba run a1.book steps.events | head -n 3
+  $ xemdulba run --launch bound a1.book steps.events | head -n 3
   ran cells 1 jobs 1
   answers 0 0 0 2
   cell 0 shape 1 trust 9 label 9 plain 7 source 12
@@ -103,7 +108,7 @@ Help on the command, or on a verb: check, run, list, events or help.
 pub fn usage(verb: Verb) -> &'static str {
     match verb {
         Verb::Check => "usage: xemdulba check [--json] [--hex | --raw] FILE..",
-        Verb::Run => "usage: xemdulba run [--json] [--hex | --raw] BOOK EVENTS",
+        Verb::Run => "usage: xemdulba run [--launch LABEL] [--json] [--hex | --raw] BOOK EVENTS",
         Verb::List => "usage: xemdulba list [--bytes] [--json] [--hex | --raw] BOOK",
         Verb::Events => "usage: xemdulba events [--bytes] [--json] [--hex | --raw] LIST",
         Verb::Help => "usage: xemdulba help [--json] [VERB]",
@@ -165,7 +170,7 @@ mod tests {
     #[test]
     fn usage_names_the_options_that_a_verb_has() {
         for verb in Verb::ALL {
-            for option in ["--json", "--bytes", "--hex", "--raw"] {
+            for option in ["--launch", "--json", "--bytes", "--hex", "--raw"] {
                 let has = verb.options().any(|name| name == option);
                 assert_eq!(usage(verb).contains(option), has, "{option}");
                 assert_eq!(text(Some(verb)).contains(option), has, "{option}");

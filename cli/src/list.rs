@@ -9,6 +9,7 @@ use crate::lines::lines;
 use crate::verdict::{self, Counted, Told, Verdict};
 use std::ffi::OsStr;
 use std::fmt::{self, Display};
+use xemdulba::Settings;
 
 pub fn book(file: &OsStr, options: Options) -> Answer {
     answer(file, options, &BOOK, check::check)
@@ -71,7 +72,7 @@ impl Counted for EventCount {
 const LEAST: [u8; 4] = [1, 0, 48, 0];
 
 fn count_events(list: &[u8]) -> Verdict<EventCount> {
-    match xemdulba::run(&LEAST, list) {
+    match xemdulba::run(&LEAST, list, Settings::default()) {
         Ok(run) => Ok(EventCount(run.answers.len())),
         Err(refusal) => Err(Told::of(&LIST, list, refusal)),
     }

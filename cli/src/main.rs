@@ -15,6 +15,7 @@ mod fault;
 mod files;
 mod help;
 mod json;
+mod launch;
 mod layout;
 mod lines;
 mod list;

@@ -4,10 +4,11 @@ use crate::answer::{Answer, Status};
 use crate::arguments::Options;
 use crate::check;
 use crate::json::{Json, Pairs};
+use crate::launch::Launch;
 use crate::layout::{BOOK, LIST};
 use crate::verdict::Told;
 use std::ffi::OsStr;
-use xemdulba::{Cell, Job, Run, Value};
+use xemdulba::{Cell, Job, Refusal, Run, Value};
 
 pub fn answer(book_file: &OsStr, list_file: &OsStr, options: Options) -> Answer {
     let mut answer = Answer::new();
@@ -25,7 +26,7 @@ pub fn answer(book_file: &OsStr, list_file: &OsStr, options: Options) -> Answer 
         file: list_file,
         bytes: &list,
     };
-    tell(&mut answer, book, list, options.json);
+    tell(&mut answer, book, list, options);
     answer
 }
 
@@ -51,24 +52,36 @@ struct Input<'f> {
     bytes: &'f [u8],
 }
 
-fn tell(answer: &mut Answer, book: Input, list: Input, json: bool) {
-    match xemdulba::run(book.bytes, list.bytes) {
+fn tell(answer: &mut Answer, book: Input, list: Input, options: Options) {
+    let settings = options.launch.settings(book.bytes);
+    match settings.and_then(|settings| xemdulba::run(book.bytes, list.bytes, settings)) {
         Ok(run) => {
             let check_refusal = check::check(book.bytes).err();
-            if json {
+            if options.json {
                 tell_objects(answer, &run, check_refusal);
             } else {
                 tell_run(answer, &run, book.file, check_refusal);
             }
         }
         Err(refusal) => {
-            let (layout, at_fault) = match refusal.number {
-                9 => (&LIST, list),
-                _ => (&BOOK, book),
-            };
-            let told = Told::of(layout, at_fault.bytes, refusal);
-            tell_refusal(answer, at_fault.file, &told, json);
+            let (file, told) = refused(book, list, options.launch, refusal);
+            tell_refusal(answer, file, &told, options.json);
         }
+    }
+}
+
+/// The file at fault, and the refusal in words.
+fn refused<'f>(
+    book: Input<'f>,
+    list: Input<'f>,
+    launch: Launch,
+    refusal: Refusal,
+) -> (&'f OsStr, Told) {
+    let bound = xemdulba::bound(book.bytes);
+    match (refusal.number, launch, bound) {
+        (9, ..) => (list.file, Told::of(&LIST, list.bytes, refusal)),
+        (14, Launch::At(label), Ok(bound)) => (book.file, Told::of_launch(refusal, label, bound)),
+        _ => (book.file, Told::of(&BOOK, book.bytes, refusal)),
     }
 }
 

@@ -1,5 +1,6 @@
 //! The verbs and the options.
 
+use crate::launch;
 use std::ffi::OsStr;
 
 #[derive(Clone, Copy, Debug, PartialEq, Eq)]
@@ -35,7 +36,8 @@ impl Verb {
 
     pub fn flags(self) -> &'static [Flag] {
         match self {
-            Verb::Check | Verb::Run => &[Flag::Json, Flag::Hex, Flag::Raw, Flag::Help],
+            Verb::Check => &[Flag::Json, Flag::Hex, Flag::Raw, Flag::Help],
+            Verb::Run => &[Flag::Launch, Flag::Json, Flag::Hex, Flag::Raw, Flag::Help],
             Verb::List | Verb::Events => {
                 &[Flag::Json, Flag::Bytes, Flag::Hex, Flag::Raw, Flag::Help]
             }
@@ -57,6 +59,7 @@ impl Verb {
 /// An option.
 #[derive(Clone, Copy, Debug, PartialEq, Eq)]
 pub enum Flag {
+    Launch,
     Json,
     Bytes,
     Hex,
@@ -66,7 +69,8 @@ pub enum Flag {
 }
 
 impl Flag {
-    const ALL: [Flag; 6] = [
+    const ALL: [Flag; 7] = [
+        Flag::Launch,
         Flag::Json,
         Flag::Bytes,
         Flag::Hex,
@@ -77,6 +81,7 @@ impl Flag {
 
     pub fn name(self) -> &'static str {
         match self {
+            Flag::Launch => "--launch",
             Flag::Json => "--json",
             Flag::Bytes => "--bytes",
             Flag::Hex => "--hex",
@@ -84,6 +89,11 @@ impl Flag {
             Flag::Help => "--help",
             Flag::Version => "--version",
         }
+    }
+
+    /// What value it takes, in words, if it takes one.
+    pub fn takes(self) -> Option<&'static str> {
+        (self == Flag::Launch).then_some(launch::LABELS)
     }
 
     pub fn of(word: &OsStr) -> Option<Flag> {

@@ -8,7 +8,7 @@ use crate::layout::Layout;
 use crate::lines::lines;
 use std::ffi::OsStr;
 use std::fmt;
-use xemdulba::{Counts, Refusal};
+use xemdulba::{Counts, Label, Refusal};
 
 /// A refusal, what the rule says, and the record at fault.
 #[derive(Debug, PartialEq, Eq)]
@@ -25,6 +25,15 @@ impl Told {
         let line = lines.find(|line| line.offset == refusal.place);
         let record = line.map_or(String::new(), |line| line.sentence());
         Told { fault, record }
+    }
+
+    /// The words of a refusal of a launch label, by the bound that it is above.
+    pub fn of_launch(refusal: Refusal, label: Label, bound: Label) -> Told {
+        let rule = refusal.rule();
+        Told {
+            fault: Fault { refusal, rule },
+            record: format!("launch label {label}, bound {bound}"),
+        }
     }
 
     /// The keys that an object has of it.

@@ -5,8 +5,9 @@
 //! `reference verdict` reads such a file on standard input and prints one verdict per book.
 //! `reference runs` writes the file of test runs.
 //! `reference outcomes` reads such a file on standard input and prints one outcome per run.
-//! `reference run BOOK EVENTS ..` prints in words what the events of a file do on the book in
-//! another, for each two files.
+//! `reference run [--launch LABEL] BOOK EVENTS ..` prints in words what the events of a file do on
+//! the book in another, for each two files, each with an option of its own. The launch label is a
+//! number, or `bound` for block 0's bound.
 //! `reference differ N` compares the two machines of the reference on N runs by chance.
 //! `reference check FILE ..` prints the verdict on the one book in each file.
 //! `reference told FILE ..` prints it with the words of a refusal.
@@ -15,8 +16,8 @@
 //! `reference events [--bytes] FILE ..` prints the list of events in each file in words.
 //! `reference unpack FOLDER [N ..]` reads a file of test books on standard input and writes each,
 //! or those of these numbers, to a file of its own: the first is FOLDER/0.
-//! `reference unpack-runs FOLDER [N ..]` does so with a file of test runs: FOLDER/0.book and
-//! FOLDER/0.events.
+//! `reference unpack-runs FOLDER [N ..]` does so with a file of test runs: FOLDER/0.book,
+//! FOLDER/0.events, and FOLDER/0.launch, which has the option for `run`, or nothing.
 
 use reference::cases::{check_books, differ, event_lists, file, generate, runs};
 use reference::check;
@@ -29,10 +30,10 @@ use std::io::{self, Read, Write};
 use std::path::Path;
 use std::process::ExitCode;
 
-const USAGE: &str =
-    "usage: reference books | check-books | verdict | runs | outcomes | run BOOK EVENTS ..
-       | differ N | check FILE .. | told FILE .. | list [--bytes] FILE .. | event-lists
-       | events [--bytes] FILE .. | unpack FOLDER [N ..] | unpack-runs FOLDER [N ..]";
+const USAGE: &str = "usage: reference books | check-books | verdict | runs | outcomes
+       | run [--launch LABEL|bound] BOOK EVENTS .. | differ N | check FILE .. | told FILE ..
+       | list [--bytes] FILE .. | event-lists | events [--bytes] FILE ..
+       | unpack FOLDER [N ..] | unpack-runs FOLDER [N ..]";
 
 fn main() -> ExitCode {
     let arguments: Vec<OsString> = std::env::args_os().skip(1).collect();
@@ -53,7 +54,7 @@ fn run(arguments: &[OsString]) -> io::Result<()> {
         (Some("verdict"), []) => print_verdicts(),
         (Some("runs"), []) => io::stdout().write_all(&runs::file::join(&runs::all())),
         (Some("outcomes"), []) => print_outcomes(),
-        (Some("run"), paths) => print_runs(paths),
+        (Some("run"), words) => print_runs(words),
         (Some("differ"), [count]) => print_difference(count),
         (Some("check"), paths) => print_each(paths, |book| format!("{}\n", check(book))),
         (Some("told"), paths) => print_each(paths, listing::told::text),
@@ -101,17 +102,40 @@ fn print_outcomes() -> io::Result<()> {
     out.flush()
 }
 
-fn print_runs(paths: &[OsString]) -> io::Result<()> {
-    if paths.is_empty() || paths.len() % 2 == 1 {
+fn print_runs(mut words: &[OsString]) -> io::Result<()> {
+    if words.is_empty() {
         return Err(usage());
     }
     let mut out = io::BufWriter::new(io::stdout().lock());
-    for pair in paths.chunks(2) {
-        let (book, events) = (std::fs::read(&pair[0])?, std::fs::read(&pair[1])?);
-        let (outcome, lent) = runs::outcome(machine::run, &runs::Run::new(book, events));
+    while !words.is_empty() {
+        let (run, behind) = first_run(words)?;
+        let (outcome, lent) = runs::outcome(machine::run, &run);
         out.write_all(run_words::text(outcome, &lent).as_bytes())?;
+        words = behind;
     }
     out.flush()
+}
+
+/// The run that the first words name, and the words behind them.
+fn first_run(words: &[OsString]) -> io::Result<(runs::Run, &[OsString])> {
+    let (launch, words) = match words {
+        [option, label, rest @ ..] if option == "--launch" => (Some(label), rest),
+        words => (None, words),
+    };
+    let [book, events, behind @ ..] = words else {
+        return Err(usage());
+    };
+    let run = runs::Run::new(std::fs::read(book)?, std::fs::read(events)?);
+    let launch = match launch {
+        None => None,
+        Some(word) if word == "bound" => run.launch,
+        Some(word) => Some(label(word)?),
+    };
+    Ok((run.with_launch(launch), behind))
+}
+
+fn label(word: &OsString) -> io::Result<u32> {
+    u32::try_from(number(word)?).map_err(|_| usage())
 }
 
 /// The seed of the runs by chance.
@@ -166,8 +190,14 @@ fn unpack_runs(folder: &Path, some: &[OsString]) -> io::Result<()> {
     for (index, run) in named(runs::file::split(&standard_input()?)?, some)? {
         std::fs::write(folder.join(format!("{index}.book")), run.book)?;
         std::fs::write(folder.join(format!("{index}.events")), run.events)?;
+        std::fs::write(folder.join(format!("{index}.launch")), option(run.launch))?;
     }
     Ok(())
+}
+
+/// A launch as the option for `run`, or nothing.
+fn option(launch: Option<u32>) -> String {
+    launch.map_or(String::new(), |label| format!("--launch {label}\n"))
 }
 
 /// Those of the numbers that are named, or all if there are none, each with its number.

@@ -14,5 +14,6 @@ complete -c xemdulba -n "__fish_seen_subcommand_from $verbs" -l json -d 'one obj
 complete -c xemdulba -n '__fish_seen_subcommand_from check run list events' -F
 complete -c xemdulba -n '__fish_seen_subcommand_from check run list events' -l hex -d 'the files are hexadecimal text'
 complete -c xemdulba -n '__fish_seen_subcommand_from check run list events' -l raw -d 'the files are bytes'
+complete -c xemdulba -n '__fish_seen_subcommand_from run' -l launch -x -a 'bound 0 1 2 3 4 5 6 7 8 9 10 11 12 13 14 15' -d 'the label that job 0 begins at'
 complete -c xemdulba -n '__fish_seen_subcommand_from list events' -l bytes -d 'the bytes of each record'
 complete -c xemdulba -n '__fish_seen_subcommand_from help' -f -a "$verbs"

@@ -1,4 +1,4 @@
-"""desk BOOK EVENTS: checks a book and, where it is accepted, runs it on a list of events.
+"""desk BOOK EVENTS: checks a book and, where it is accepted, runs it on a list of events, with job 0 at the bound of block 0.
 
 Exit status: 0 it ran, 1 refused, 2 no answer, or it cannot be written.
 """
@@ -42,7 +42,7 @@ def desk(book: bytes, events: bytes) -> tuple[int, list[str]]:
     lines = []
     try:
         lines.append(str(xemdulba.check(book)))
-        lines.extend(run_lines(xemdulba.run(book, events)))
+        lines.extend(run_lines(xemdulba.run(book, events, xemdulba.bound(book))))
     except xemdulba.Refusal as refusal:
         return 1, [*lines, str(refusal)]
     return 0, lines

@@ -22,7 +22,7 @@ elif sys.version_info >= (3, 12):
 else:
     from typing_extensions import Buffer
 
-__version__ = "0.1.0"
+__version__ = "0.2.0"
 
 KIT: Optional[str] = _KIT
 """The identity of the kit that proved the library, as `rt version` prints it; None if nothing beside the library says."""
@@ -62,6 +62,7 @@ _RULES = (
     "the answer buffer has fewer bytes than the list has events",
     "the block asked for does not exist",
     "the output buffer is too short",
+    "the launch label is above block 0's bound",
 )
 
 
@@ -76,7 +77,7 @@ class Refusal(Exception):
 
     @property
     def rule(self) -> str:
-        """What the rule of its number says, in words. The library gives no number but 1 to 13."""
+        """What the rule of its number says, in words. The library gives no number but 1 to 14."""
         return _RULES[self.number - 1] if 1 <= self.number <= len(_RULES) else "no refusal has this number"
 
     def __str__(self) -> str:
@@ -238,14 +239,23 @@ def event(events: Buffer, offset: int) -> Optional[Fields]:
     return _fields(_library.library.xemdulba_event(lent, len(lent), _offset(offset)))
 
 
-def run(book: Buffer, events: Buffer) -> Run:
-    """Runs a list of events on a book from its start. Refused by 1 to 6 or 9; the book need not be accepted."""
+def bound(book: Buffer) -> int:
+    """The bound of block 0, the highest label that a run may be launched at. Refused by 1 to 6; the book need not be accepted."""
+    lent = _library.lent(book, "book")
+    return lent[stretch_range(lent, 0).start - 1]  # the last byte of the block's record, which stands just before its steps
+
+
+def run(book: Buffer, events: Buffer, launch: Optional[int] = None) -> Run:
+    """Runs a list of events on a book from its start. Job 0 is launched at the label `launch`, which is also its history; by default at
+    the smaller of C plus 1 and the bound of block 0, which `bound` tells. Refused by 1 to 6, 9 or 14; the book need not be accepted. A
+    launch that is no number of 32 bits, or the last of them, raises ValueError."""
     book, events = _library.lent(book, "book"), _library.lent(events, "events")
+    launch = _launch(launch)
     most_events = min(len(events), _LONGEST_LIST) // 2  # each has 2 bytes or more
     cells, jobs = _library.space(TABLE * _CELL_SIZE), _library.space(TABLE * _JOB_SIZE)
     answers = _library.space(most_events, _UNANSWERED)
     written = (cells, len(cells), jobs, len(jobs), answers, len(answers))
-    ran = _library.library.xemdulba_run(book, len(book), events, len(events), *written)
+    ran = _library.library.xemdulba_run(book, len(book), launch, events, len(events), *written)
     _raise_refusal(ran)
     return Run(
         tuple(_cell(entry) for entry in _entries(cells, _CELL_SIZE, ran.cells)),
@@ -307,6 +317,17 @@ def _number(value: int, name: str, bits: int) -> int:
         raise TypeError(f"{name} must be an int, not {type(value).__name__}")
     if not 0 <= value < 2**bits:
         raise ValueError(f"{name} must be a number of {bits} bits")
+    return value
+
+
+def _launch(value: Optional[int]) -> int:
+    """A launch label as the library takes it."""
+    if value is None:
+        return _library.DEFAULT_LAUNCH
+    if isinstance(value, bool):
+        raise TypeError("launch must be an int, not bool")
+    if _number(value, "launch", 32) == _library.DEFAULT_LAUNCH:
+        raise ValueError("launch must be below 4294967295, which stands for none")
     return value
 
 

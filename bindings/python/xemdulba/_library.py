@@ -13,6 +13,7 @@ NAME = "libxemdulba.so"
 KIT_NAME = "libxemdulba.kit"
 
 MOST_OFFSET = ctypes.c_size_t(-1).value
+DEFAULT_LAUNCH = 0xFFFFFFFF  # the launch label that stands for none
 
 _NATIVE = "@=<>!"  # how a format of the buffer protocol may begin: of one byte they all say the same
 _ONE_BYTE = ("B", "b", "c")
@@ -81,7 +82,7 @@ def _load(path: str) -> ctypes.CDLL:
         "xemdulba_block": ([*read, ctypes.c_uint32], Stretch),
         "xemdulba_record": ([*read, ctypes.c_size_t], Told),
         "xemdulba_event": ([*read, ctypes.c_size_t], Told),
-        "xemdulba_run": (read * 2 + written * 3, Ran),
+        "xemdulba_run": ([*read, ctypes.c_uint32, *read, *(written * 3)], Ran),
         "xemdulba_write": ([ctypes.c_uint32, *(read * 4), *written], Written),
     }
     try:

@@ -1,4 +1,5 @@
-//! `desk BOOK EVENTS`: checks a book and, where it is accepted, runs it on a list of events.
+//! `desk BOOK EVENTS`: checks a book and, where it is accepted, runs it on a list of events, with
+//! job 0 at the bound of block 0.
 //! Exit status: 0 it ran, 1 refused, 2 no answer, or it cannot be written.
 
 use std::ffi::OsString;
@@ -8,7 +9,7 @@ use std::io::{self, ErrorKind, Read as _, Write as _};
 use std::os::fd::AsFd;
 use std::path::Path;
 use std::process::ExitCode;
-use xemdulba::{Cell, Job, Refusal, Run, Value};
+use xemdulba::{Cell, Job, Refusal, Run, Settings, Value};
 
 fn main() -> ExitCode {
     let arguments: Vec<OsString> = std::env::args_os().skip(1).collect();
@@ -107,7 +108,8 @@ fn read(path: &OsString) -> io::Result<Vec<u8>> {
 fn desk(book: &[u8], events: &[u8], text: &mut String) -> Result<(), Refusal> {
     let counts = xemdulba::check(book)?;
     *text += &format!("{counts}\n");
-    let run = xemdulba::run(book, events)?;
+    let at_bound = Settings::default().launch(xemdulba::bound(book)?);
+    let run = xemdulba::run(book, events, at_bound)?;
     write_run(&run, text).expect("a string takes all text");
     Ok(())
 }

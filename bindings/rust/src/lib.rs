@@ -10,7 +10,7 @@
 //! let counts = xemdulba::check(&[1, 3, 48, 12])?;
 //! assert_eq!(counts.blocks, 1);
 //! // Job 0 is asked for a step.
-//! let run = xemdulba::run(&[1, 3, 48, 12], &[80, 0])?;
+//! let run = xemdulba::run(&[1, 3, 48, 12], &[80, 0], xemdulba::Settings::default())?;
 //! assert_eq!(run.answers, [xemdulba::Answer::NoStepLeft]);
 //! # Ok::<(), xemdulba::Refusal>(())
 //! ```
@@ -23,6 +23,7 @@ mod fields;
 mod library;
 mod records;
 mod rows;
+mod settings;
 mod tables;
 mod verdict;
 mod writer;
@@ -33,6 +34,7 @@ pub use records::{Cell, Job, Kind, Label, Trust, Value, REGISTERS};
 pub use rows::{
     BlockRow, BookTables, CellRow, ShapeRow, StepRow, BLOCK_ROW, CELL_ROW, SHAPE_ROW, STEP_ROW,
 };
+pub use settings::Settings;
 pub use tables::{Record, Records, Tables, CELLS_SIZE, JOBS_SIZE, TABLE};
 pub use verdict::{Counts, Refusal};
 pub use writer::{tables, write, write_into, LONGEST_BOOK};
@@ -71,6 +73,14 @@ pub fn stretch_range(book: &[u8], block: u32) -> Result<Range<usize>, Refusal> {
     Ok(start..start + found.length as usize)
 }
 
+/// The bound of block 0, the highest label that a run may be launched at: refused by 1 to 6. The
+/// book need not be accepted.
+pub fn bound(book: &[u8]) -> Result<Label, Refusal> {
+    // The bound is the last byte of the block's record, which stands just before its steps.
+    let steps = stretch_range(book, 0)?;
+    Ok(Label(book[steps.start - 1]))
+}
+
 /// What a run gives: the cells and jobs in use, and an answer for each event.
 #[derive(Clone, Debug, PartialEq, Eq)]
 pub struct Run {
@@ -79,12 +89,13 @@ pub struct Run {
     pub answers: Vec<Answer>,
 }
 
-/// Runs a list of events on a book from its start: refused by 1 to 6 or 9. The book need not be
-/// accepted.
-pub fn run(book: &[u8], events: &[u8]) -> Result<Run, Refusal> {
+/// Runs a list of events on a book from its start: refused by 1 to 6, 9 or 14. The book need not be
+/// accepted. The settings say at which label job 0 is launched: by default low, and not at the
+/// bound of block 0, which `bound` tells.
+pub fn run(book: &[u8], events: &[u8], settings: Settings) -> Result<Run, Refusal> {
     let (mut cells, mut jobs) = ([0; CELLS_SIZE], [0; JOBS_SIZE]);
     let mut answers = vec![UNANSWERED; most_events(events)];
-    let tables = run_into(book, events, &mut cells, &mut jobs, &mut answers)?;
+    let tables = run_into(book, events, settings, &mut cells, &mut jobs, &mut answers)?;
     Ok(Run {
         cells: tables.cells.iter().collect(),
         jobs: tables.jobs.iter().collect(),
@@ -105,16 +116,17 @@ fn most_events(events: &[u8]) -> usize {
 
 /// As `run`, with memory that the caller lends; nothing is allocated. The tables must have
 /// `CELLS_SIZE` and `JOBS_SIZE` bytes, else the run is refused by 10, and `answers` a byte for
-/// each event, else by 11; bytes of `answers` beyond the events are kept. What the memory held
-/// before plays no part, and a refused run writes nothing to it.
+/// each event, else by 11, both ahead of 14; bytes of `answers` beyond the events are kept. What the
+/// memory held before plays no part, and a refused run writes nothing to it.
 pub fn run_into<'t>(
     book: &[u8],
     events: &[u8],
+    settings: Settings,
     cells: &'t mut [u8],
     jobs: &'t mut [u8],
     answers: &mut [u8],
 ) -> Result<Tables<'t>, Refusal> {
-    let ran = library::run(book, events, cells, jobs, answers);
+    let ran = library::run(book, settings.launch_number(), events, cells, jobs, answers);
     Refusal::stated(ran.refusal, ran.place)?;
     Ok(Tables {
         cells: Records::first(cells, ran.cells as usize),

@@ -66,6 +66,7 @@ extern "C" {
     fn xemdulba_run(
         book: *const u8,
         length: usize,
+        launch: u32,
         list: *const u8,
         list_length: usize,
         cells: *mut u8,
@@ -111,13 +112,24 @@ pub fn event(list: &[u8], offset: usize) -> Told {
     unsafe { xemdulba_event(list.as_ptr(), list.len(), offset) }
 }
 
-pub fn run(book: &[u8], list: &[u8], cells: &mut [u8], jobs: &mut [u8], answers: &mut [u8]) -> Ran {
+/// The launch label that stands for none.
+pub const DEFAULT_LAUNCH: u32 = 0xFFFF_FFFF;
+
+pub fn run(
+    book: &[u8],
+    launch: u32,
+    list: &[u8],
+    cells: &mut [u8],
+    jobs: &mut [u8],
+    answers: &mut [u8],
+) -> Ran {
     // SAFETY: pointers and lengths are those of slices, and the three that are written to are
     // lent as `&mut`, so that they overlap nothing.
     unsafe {
         xemdulba_run(
             book.as_ptr(),
             book.len(),
+            launch,
             list.as_ptr(),
             list.len(),
             cells.as_mut_ptr(),

@@ -33,7 +33,7 @@ pub struct Refusal {
 }
 
 /// What the rules say, from refusal 1 on.
-const RULES: [&str; 13] = [
+const RULES: [&str; 14] = [
     "the book is longer than 32768 bytes",
     "a kind is none of the format's, or the book ends inside a record",
     "the first record is missing or not C, a record is out of order, or no block stands",
@@ -49,10 +49,11 @@ const RULES: [&str; 13] = [
     "the answer buffer has fewer bytes than the list has events",
     "the block asked for does not exist",
     "the output buffer is too short",
+    "the launch label is above block 0's bound",
 ];
 
 impl Refusal {
-    /// What the rule of its number says, in words. The library gives no number but 1 to 13.
+    /// What the rule of its number says, in words. The library gives no number but 1 to 14.
     ///
     /// ```
     /// let refusal = xemdulba::check(&[1, 3]).unwrap_err();

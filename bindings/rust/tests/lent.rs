@@ -2,8 +2,8 @@
 
 mod common;
 
-use common::{BOOK_A, FOUR_STEPS};
-use xemdulba::{run, run_into, Answer, Refusal, CELLS_SIZE, JOBS_SIZE, TABLE};
+use common::{at_bound, BOOK_A, FOUR_STEPS};
+use xemdulba::{run, run_into, Answer, Refusal, Tables, CELLS_SIZE, JOBS_SIZE, TABLE};
 
 /// What the memory holds before.
 const BEFORE: u8 = 0xA5;
@@ -16,7 +16,14 @@ fn lend(lengths: [usize; 3]) -> [Vec<u8>; 3] {
 /// A refused run: the refusal, once it is seen that nothing was written.
 fn refused(book: &[u8], events: &[u8], lengths: [usize; 3]) -> (u32, usize) {
     let [mut cells, mut jobs, mut answers] = lend(lengths);
-    let outcome = run_into(book, events, &mut cells, &mut jobs, &mut answers);
+    let outcome = run_into(
+        book,
+        events,
+        at_bound(book),
+        &mut cells,
+        &mut jobs,
+        &mut answers,
+    );
     let Refusal { number, place } = outcome.expect_err("the run is refused");
     assert_eq!([cells, jobs, answers], lend(lengths));
     (number, place)
@@ -50,15 +57,22 @@ fn long_books_and_lists_are_refused() {
     let lengths = [CELLS_SIZE, JOBS_SIZE, 32_769];
     assert_eq!(refused(&[1; 32_769], &[], lengths), (1, 0));
     assert_eq!(refused(&BOOK_A, &[80; 65_537], lengths), (9, 0));
-    let refusal = run(&BOOK_A, &[80; 65_537]).unwrap_err();
+    let refusal = run(&BOOK_A, &[80; 65_537], at_bound(&BOOK_A)).unwrap_err();
     assert_eq!((refusal.number, refusal.place), (9, 0));
+}
+
+/// Book A on four steps, at the bound, in lent memory.
+fn four_steps([cells, jobs, answers]: &mut [Vec<u8>; 3]) -> Tables<'_> {
+    let settings = at_bound(&BOOK_A);
+    run_into(&BOOK_A, &FOUR_STEPS, settings, cells, jobs, answers).unwrap()
 }
 
 #[test]
 fn spare_answers_are_kept_and_unused_entries_cleared() {
-    let [mut cells, mut jobs, mut answers] = lend([CELLS_SIZE, JOBS_SIZE, 6]);
-    let tables = run_into(&BOOK_A, &FOUR_STEPS, &mut cells, &mut jobs, &mut answers).unwrap();
+    let mut lent = lend([CELLS_SIZE, JOBS_SIZE, 6]);
+    let tables = four_steps(&mut lent);
     assert_eq!((tables.cells.len(), tables.jobs.len()), (1, 1));
+    let [cells, jobs, answers] = lent;
     assert_eq!(answers, [0, 0, 0, 2, BEFORE, BEFORE]);
     assert!(cells[9..].iter().all(|&byte| byte == 0));
     assert!(jobs[52..].iter().all(|&byte| byte == 0));
@@ -66,9 +80,9 @@ fn spare_answers_are_kept_and_unused_entries_cleared() {
 
 #[test]
 fn the_views_are_what_an_owned_run_has() {
-    let [mut cells, mut jobs, mut answers] = lend([CELLS_SIZE, JOBS_SIZE, 4]);
-    let tables = run_into(&BOOK_A, &FOUR_STEPS, &mut cells, &mut jobs, &mut answers).unwrap();
-    let owned = run(&BOOK_A, &FOUR_STEPS).unwrap();
+    let mut lent = lend([CELLS_SIZE, JOBS_SIZE, 4]);
+    let tables = four_steps(&mut lent);
+    let owned = run(&BOOK_A, &FOUR_STEPS, at_bound(&BOOK_A)).unwrap();
     assert_eq!(tables.cells.iter().collect::<Vec<_>>(), owned.cells);
     assert_eq!(tables.jobs.iter().collect::<Vec<_>>(), owned.jobs);
     assert_eq!(tables.jobs.get(0), Some(owned.jobs[0]));
@@ -82,7 +96,7 @@ fn full_tables_are_read_to_their_end() {
     let make = [0x53, 0x03, 0x02, 0x00, 0x2A, 0x00, 0x00, 0x00];
     let start = [0x55, 0x03, 0x00];
     let events = [make.repeat(TABLE), start.repeat(TABLE)].concat();
-    let run = run(&book, &events).unwrap();
+    let run = run(&book, &events, at_bound(&book)).unwrap();
     assert_eq!((run.cells.len(), run.jobs.len()), (TABLE, TABLE));
     assert_eq!(run.cells[TABLE - 1].value.number, 42);
     let blocked = |answer: &&Answer| **answer == Answer::Blocked;
@@ -92,7 +106,7 @@ fn full_tables_are_read_to_their_end() {
 
 #[test]
 fn the_longest_list_has_an_answer_for_each_event() {
-    let run = run(&BOOK_A, &[0x50, 0x00].repeat(32_768)).unwrap();
+    let run = run(&BOOK_A, &[0x50, 0x00].repeat(32_768), at_bound(&BOOK_A)).unwrap();
     assert_eq!(run.answers.len(), 32_768);
     assert_eq!(run.answers[32_767], Answer::NoStepLeft);
 }

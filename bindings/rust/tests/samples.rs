@@ -2,7 +2,7 @@
 
 mod common;
 
-use common::{BOOK_A, FOUR_STEPS};
+use common::{at_bound, BOOK_A, FOUR_STEPS};
 use xemdulba::{check, run, stretch, stretch_range, Answer, Counts, Kind, Label, Refusal, Trust};
 
 /// "A6 last step 47 00 08".
@@ -50,7 +50,7 @@ fn a6_is_refused_at_its_last_step() {
 fn books_without_a_block_are_refused() {
     assert_eq!(check(&[]), Err(refusal(3, 0)));
     assert_eq!(check(&[0x01, 0x0F]), Err(refusal(3, 2)));
-    assert_eq!(run(&[], &[]), Err(refusal(3, 0)));
+    assert_eq!(run(&[], &[], at_bound(&[])), Err(refusal(3, 0)));
     assert_eq!(stretch(&[], 0), Err(refusal(3, 0)));
 }
 
@@ -65,7 +65,7 @@ fn a_stretch_is_the_steps_of_its_block() {
 
 #[test]
 fn four_steps_of_book_a() {
-    let run = run(&BOOK_A, &FOUR_STEPS).unwrap();
+    let run = run(&BOOK_A, &FOUR_STEPS, at_bound(&BOOK_A)).unwrap();
     let [done, none_left] = [Answer::Done, Answer::NoStepLeft];
     assert_eq!(run.answers, [done, done, done, none_left]);
     let [cell] = run.cells[..] else {
@@ -82,7 +82,7 @@ fn four_steps_of_book_a() {
 
 #[test]
 fn the_job_of_book_a() {
-    let run = run(&BOOK_A, &FOUR_STEPS).unwrap();
+    let run = run(&BOOK_A, &FOUR_STEPS, at_bound(&BOOK_A)).unwrap();
     let [job] = run.jobs[..] else {
         panic!("one job is in use");
     };
@@ -96,7 +96,7 @@ fn the_job_of_book_a() {
 
 #[test]
 fn four_steps_with_bound_8() {
-    let run = run(&book_a2(), &FOUR_STEPS).unwrap();
+    let run = run(&book_a2(), &FOUR_STEPS, at_bound(&book_a2())).unwrap();
     let [done, blocked] = [Answer::Done, Answer::Blocked];
     assert_eq!(run.answers, [done, done, blocked, blocked]);
     assert_eq!(run.cells[0].value.number, 5);
@@ -106,7 +106,7 @@ fn four_steps_with_bound_8() {
 #[test]
 fn an_outsider_is_blocked_or_above_c() {
     for (label, answer) in [(3, Answer::Blocked), (4, Answer::NoSuch)] {
-        let run = run(&BOOK_A, &write_at(label)).unwrap();
+        let run = run(&BOOK_A, &write_at(label), at_bound(&BOOK_A)).unwrap();
         assert_eq!(run.answers, [answer]);
         assert_eq!(run.cells[0].value.number, 5);
         assert_eq!(run.cells[0].value.source, Label(15));

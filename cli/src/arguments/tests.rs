@@ -17,6 +17,7 @@ const PLAIN: Options = Options {
     json: false,
     bytes: false,
     content: Content::Unsaid,
+    launch: Launch::Low,
 };
 
 fn check(files: &[&str], options: Options) -> Result<Request, String> {
@@ -57,6 +58,66 @@ fn files() {
     };
     assert_eq!(asked(&["run", "a", "-"]), Ok(run));
     assert_eq!(asked(&["check", ""]), check(&[""], PLAIN));
+}
+
+/// `run` with some words in front of its files.
+fn run(words: &[&str]) -> Result<Options, String> {
+    match asked(&[&["run"], words, &["a", "b"]].concat())? {
+        Request::Run { options, .. } => Ok(options),
+        other => panic!("{other:?}"),
+    }
+}
+
+#[test]
+fn launch_labels() {
+    let launched = |launch| Ok(Options { launch, ..PLAIN });
+    assert_eq!(run(&[]), launched(Launch::Low));
+    assert_eq!(run(&["--launch", "bound"]), launched(Launch::Bound));
+    assert_eq!(run(&["--launch=bound"]), launched(Launch::Bound));
+    let at = |label| Launch::At(xemdulba::Label(label));
+    assert_eq!(run(&["--launch", "0"]), launched(at(0)));
+    assert_eq!(run(&["--launch=15"]), launched(at(15)));
+    let behind = asked(&["run", "a", "--launch", "4", "--json", "--", "-b"]);
+    let options = Options {
+        json: true,
+        launch: at(4),
+        ..PLAIN
+    };
+    let (book, events) = ("a".into(), "-b".into());
+    let expected = Request::Run {
+        book,
+        events,
+        options,
+    };
+    assert_eq!(behind, Ok(expected));
+}
+
+#[test]
+fn wrong_launch_labels() {
+    let takes = "'--launch' takes a label from 0 to 15, or bound";
+    for word in ["16", "300", "-1", "x", "", "--json", "--", "a\nb"] {
+        let shown = word.replace('\n', "?");
+        let not = Err(format!("{takes}, not '{shown}'"));
+        assert_eq!(run(&["--launch", word]), not);
+        assert_eq!(run(&[&format!("--launch={word}")]), not);
+    }
+    assert_eq!(wrong(&["run", "a", "b", "--launch"]), takes);
+    let twice = Err("'--launch' stands once at most".to_string());
+    assert_eq!(run(&["--launch", "4", "--launch=4"]), twice);
+    assert_eq!(run(&["--launch=4", "--launch", "bound"]), twice);
+    assert_eq!(
+        wrong(&["run", "--lanch=4", "a", "b"]),
+        "no option '--lanch=4': did you mean '--launch'?"
+    );
+    assert_eq!(
+        wrong(&["run", "--json=4", "a", "b"]),
+        "no option '--json=4': did you mean '--json'?"
+    );
+    assert_eq!(
+        wrong(&["check", "--launch", "4", "a"]),
+        "no option '--launch': check has --json, --hex, --raw, --help"
+    );
+    assert_eq!(wrong(&["--launch", "4"]), "'--launch' stands behind a verb");
 }
 
 #[test]

@@ -1,10 +1,17 @@
 //! Runs in words and as objects, written by hand from docs/FORMAT.md.
 
 use super::*;
+use crate::files::Content;
 use crate::text;
+use xemdulba::Label;
 
-/// What goes to standard output, to standard error, and the status.
+/// What goes to standard output, to standard error, and the status, of a run at the bound.
 fn told(book: &str, list: &str, json: bool) -> (String, String, Status) {
+    launched(book, list, Launch::Bound, json)
+}
+
+/// The same of a run that is launched so.
+fn launched(book: &str, list: &str, launch: Launch, json: bool) -> (String, String, Status) {
     let bytes = |hex: &str| text::parse(hex.as_bytes()).unwrap();
     let mut answer = Answer::new();
     let (book, list) = (bytes(book), bytes(list));
@@ -16,7 +23,13 @@ fn told(book: &str, list: &str, json: bool) -> (String, String, Status) {
         file: OsStr::new("list"),
         bytes: &list,
     };
-    tell(&mut answer, book, list, json);
+    let options = Options {
+        json,
+        bytes: false,
+        content: Content::Unsaid,
+        launch,
+    };
+    tell(&mut answer, book, list, options);
     let text = |bytes| String::from_utf8(bytes).unwrap();
     (text(answer.out), text(answer.notes), answer.status)
 }
@@ -94,4 +107,60 @@ fn refusals() {
     let refused = r#"{"outcome":"refused","file":"book","refusal":5,"place":0,"#;
     assert!(out.starts_with(refused));
     assert_eq!((notes.as_str(), status), ("", Status::Refused));
+}
+
+/// C is 3 and the bound 12: by default job 0 begins at 4, below the label 9 of the cell that its
+/// third step writes to.
+#[test]
+fn launch_labels() {
+    let (low, notes, status) = launched(A, STEPS, Launch::Low, false);
+    let lines: Vec<&str> = low.lines().collect();
+    let expected = [
+        "ran cells 1 jobs 1",
+        "answers 0 0 1 1",
+        "cell 0 shape 1 trust 9 label 9 plain 5 source 15",
+        "job 0 block 0 position 2 label 4 source 4",
+        "  register 0 cell 0 source 4",
+        "  register 1 plain 7 source 4",
+        "  register 2 plain 0 source 4",
+    ];
+    assert_eq!(lines[..7], expected);
+    assert_eq!((notes.as_str(), status), ("", Status::Good));
+    let at = |label| launched(A, STEPS, Launch::At(Label(label)), false).0;
+    assert_eq!(at(4), low);
+    assert_eq!(at(12), told(A, STEPS, false).0);
+    assert!(at(9).starts_with("ran cells 1 jobs 1\nanswers 0 0 0 2\n"));
+}
+
+#[test]
+fn refused_launches() {
+    let at_13 = Launch::At(Label(13));
+    let (out, notes, status) = launched(A, STEPS, at_13, false);
+    assert_eq!(
+        (out.as_str(), status),
+        ("refused 14 at 0\n", Status::Refused)
+    );
+    let note = "xemdulba: book: refused 14 at 0: the launch label is above block 0's bound: \
+                launch label 13, bound 12\n";
+    assert_eq!(notes, note);
+    let (out, notes, status) = launched(A, STEPS, at_13, true);
+    let refused = r#"{"outcome":"refused","file":"book","refusal":14,"place":0,"#;
+    let rule = r#""rule":"the launch label is above block 0's bound","#;
+    let record = r#""record":"launch label 13, bound 12"}"#;
+    assert_eq!(out, [refused, rule, record, "\n"].concat());
+    assert_eq!((notes.as_str(), status), ("", Status::Refused));
+}
+
+/// What is wrong with the book or the list comes first.
+#[test]
+fn other_refusals_before_the_launch() {
+    for launch in [Launch::Low, Launch::Bound, Launch::At(Label(13))] {
+        let (out, notes, _) = launched("01 0F 30 00", "09", launch, false);
+        assert_eq!(out, "refused 5 at 0\n");
+        let note = "xemdulba: book: refused 5 at 0: C is above 14: C: 15\n";
+        assert_eq!(notes, note);
+        let (out, notes, _) = launched(A, "50 00 09", launch, false);
+        assert_eq!(out, "refused 9 at 2\n");
+        assert!(notes.starts_with("xemdulba: list: refused 9 at 2: "));
+    }
 }

@@ -23,7 +23,7 @@ use Rattle.book.proofs.Tests.{both-left, both-right}
 use Rattle.typing.specs.declared.Known.the-variants as N
 use Rattle.typing.specs.Shapes.{viewOf, isCellShape, contentOf, countedTrust, isHighTrust, fits, knownValue, declaredOk}
 use Rattle.machine.specs.Histories.{sources}
-use Rattle.machine.specs.Events.{blockOf, launchLabel, declared, freshState}
+use Rattle.machine.specs.Events.{blockOf, firstBound, declared, freshState}
 use Rattle.integrity.proofs.Trees.{Grounded, Tree, cell, tree-cell, tree-trust}
 use Rattle.integrity.proofs.Numbers.{facts, normal-above}
 use Rattle.integrity.proofs.Invariant.{Cells, shapeOf, treeOf, treeAt, Has, Fits, Good, CellOk, Invariant}
@@ -96,7 +96,7 @@ module _ (K : Book) (a : Accepted K) where
   declared-ok [] h = tt
   declared-ok (d ∷ ds) h = (λ t S e. declared-good d (h .0) (isHighTrust (K .c) (shapeOf K) (d .shape)) refl t S e, declared-ok ds (h .1))
 
-  pub fresh-state-ok : (l : Label) → l .0 ≤ launchLabel K .0 → Invariant K (freshState sources K l)
+  pub fresh-state-ok : (l : Label) → l .0 ≤ firstBound K .0 → Invariant K (freshState sources K l)
   fresh-state-ok l p =
       record {
         declared = first-tree (K .cells);

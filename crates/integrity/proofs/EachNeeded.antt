@@ -31,7 +31,7 @@ use Rattle.machine.specs.Control.{given, onPlain, onCell, onCode}
 use Rattle.machine.specs.Acts.{execLabel, writeAct, relabelAct, newAct, startAct, execAct}
 use Rattle.machine.specs.Steps.{summable, addStep, readStep, lowerStep, turnOf}
 use Rattle.machine.specs.Histories.{lists}
-use Rattle.machine.specs.Events.{tableSize, launchLabel, freshState, landed, turnLanded, outcomeOf, stateAfter}
+use Rattle.machine.specs.Events.{tableSize, firstBound, freshState, landed, turnLanded, outcomeOf, stateAfter}
 use Rattle.integrity.specs.Weakened.{alikeBy, fitsBy, declaredBy, stepRuleBy, walkBy, every, acceptedBy, Needed}
 use Rattle.integrity.specs.Loosened as L
 use Rattle.integrity.specs.Loosened.{turnBy, outcomeBy, stateBy, NeededThere}
@@ -48,7 +48,7 @@ shown place bytes events =
       acceptedBy place K,
       acceptedBy "" K,
       verdict bytes,
-      sentencesHold K (stateAfter lists tableSize K (freshState lists K (launchLabel K)) events),
+      sentencesHold K (stateAfter lists tableSize K (freshState lists K (firstBound K)) events),
     )
 
 -- a place of the typing rules: a book, events, and the number and offset of the book's refusal
@@ -70,7 +70,7 @@ needed bytes events number offset e =
 -- a place of the machine: a book, events, and the book's counts
 needed-there : {place : String} (bytes : List ℕ) (events : List Event) (shapes cells blocks steps : ℕ)
     → verdict bytes ≡ Accepted shapes cells blocks steps
-    → sentencesHold (parse bytes) (stateBy place (parse bytes) (freshState lists (parse bytes) (launchLabel (parse bytes))) events) ≡ false
+    → sentencesHold (parse bytes) (stateBy place (parse bytes) (freshState lists (parse bytes) (firstBound (parse bytes))) events) ≡ false
     → NeededThere place
 needed-there bytes events shapes cells blocks steps accepted e =
     record {

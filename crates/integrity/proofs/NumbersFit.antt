@@ -16,7 +16,7 @@ use Rattle.book.proofs.Parsed.{SoundBook, sound}
 use Rattle.machine.specs.Histories.{lists, History}
 use Rattle.machine.specs.States.{Traced}
 use Rattle.machine.specs.Steps.{summable}
-use Rattle.machine.specs.Events.{tableSize, launchLabel}
+use Rattle.machine.specs.Events.{tableSize}
 use Rattle.machine.specs.Records.{numberOf, valueRecord, cellRecord, jobRecord, ValueRecord}
 use Rattle.book.proofs.Decoded.{number-is}
 use Rattle.machine.proofs.Named.{stepNumber, Numbers, BookHas, EventHas, TracedNamed, CellNamed, JobNamed, number-named, state-after-has}
@@ -91,14 +91,14 @@ value-fits : (K : Book) → SoundBook K → (v : Traced History) → TracedNamed
 value-fits K ok v n = number-named (λ b h. omega (arith, h, ok .few)) (n .value)
 
 pub numbers-fit : NumbersFit
-numbers-fit book b e list l =
+numbers-fit book b e l list bytes =
     let K = parse book in
     let ok = sound book e in
-    let s = state-after-has Fits lists K tableSize made ok (book-fits book b) (launchLabel K) (eventsIn list) (events-fit list l) in
+    let s = state-after-has Fits lists K tableSize made ok (book-fits book b) l (eventsIn list) (events-fit list bytes) in
     record {
-      cells = map-from (cellRecord K) (λ r. Fits (r .value .number)) (finalState book list .cells)
-          (λ c m. value-fits K ok (c .content) (all-in (CellNamed Fits K) (finalState book list .cells) c (s .cells) m .content));
-      registers = map-from jobRecord (λ r. (v : ValueRecord) → v isIn r .registers → Fits (v .number)) (finalState book list .jobs)
+      cells = map-from (cellRecord K) (λ r. Fits (r .value .number)) (finalState book l list .cells)
+          (λ c m. value-fits K ok (c .content) (all-in (CellNamed Fits K) (finalState book l list .cells) c (s .cells) m .content));
+      registers = map-from jobRecord (λ r. (v : ValueRecord) → v isIn r .registers → Fits (v .number)) (finalState book l list .jobs)
           (λ j m. map-from valueRecord (λ v. Fits (v .number)) (j .registers)
-          (λ v i. value-fits K ok v (all-in (TracedNamed Fits K) (j .registers) v (all-in (JobNamed Fits K) (finalState book list .jobs) j (s .jobs) m .registers) i)));
+          (λ v i. value-fits K ok v (all-in (TracedNamed Fits K) (j .registers) v (all-in (JobNamed Fits K) (finalState book l list .jobs) j (s .jobs) m .registers) i)));
     }

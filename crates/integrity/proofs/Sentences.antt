@@ -16,7 +16,7 @@ use Rattle.typing.specs.Shapes as T
 use Rattle.machine.specs.declared.Event.{Event}
 use Rattle.machine.specs.Histories.{History, lists, lowest, source, sources}
 use Rattle.machine.specs.States.{Cell, Job, State}
-use Rattle.machine.specs.Events.{statedTrust, launchLabel, freshState, stateAfter}
+use Rattle.machine.specs.Events.{statedTrust, firstBound, freshState, stateAfter}
 use Rattle.machine.specs.Images.{cellImage, jobImage, stateImage}
 use Rattle.machine.specs.Records.{cellRecord, jobRecord}
 use Rattle.machine.proofs.Sources.{source-law}
@@ -34,7 +34,7 @@ lowest-all n l [] x h (List·Memᴰ·tail m) = absurd (List·Memᴰ·not-nil m)
 lowest-all n l (m ∷ ms) x h (List·Memᴰ·head e) = let y = lower-number l (lowest m ms) in rw e (omega arith)
 lowest-all n l (m ∷ ms) x h (List·Memᴰ·tail i) = let y = lower-number l (lowest m ms) in lowest-all n m ms x (omega arith) i
 
-module _ (K : Book) (a : Accepted K) (size : ℕ) (l : Label) (p : reaches (launchLabel K) l ≡ true) (es : List Event) where
+module _ (K : Book) (a : Accepted K) (size : ℕ) (l : Label) (p : reaches (firstBound K) l ≡ true) (es : List Event) where
   abbrev end : State History
   end = stateAfter lists size K (freshState lists K l) es
 

@@ -12,7 +12,7 @@ use Rattle.typing.specs.Verdict.{verdict}
 use Rattle.machine.specs.declared.Event.{Event}
 use Rattle.machine.specs.Histories.{History, hands, lists}
 use Rattle.machine.specs.States.{Cell, Job, State}
-use Rattle.machine.specs.Events.{statedTrust, launchLabel, outcomeOf, freshState, stateAfter}
+use Rattle.machine.specs.Events.{statedTrust, firstBound, outcomeOf, freshState, stateAfter}
 use Rattle.machine.specs.Records.{CellRecord, JobRecord, cellRecords, jobRecords}
 
 -- "All cells and jobs in use are meant, finished jobs too." "A hand is a label that stands in a history".
@@ -41,10 +41,10 @@ pub record Kept (K : Book) (s : State History) : Type 0 where
   pub recorded : Recorded (K .c) (cellRecords K s) (jobRecords s)
 
 -- Of every run: "A book is accepted when none of refusals 1 to 8 holds of it." "Events are 80 to 85, whatever they are answered". For
--- tables of every size, and every launch label up to block 0's bound.
+-- tables of every size. 02, Three: "The integrity guarantee has to cover every launch label up to the bound."
 abbrev pub OfEveryRun : (Book → ℕ → Label → List Event → Type 0) → Type 0
 OfEveryRun P = (bytes : List ℕ) (shapes cells blocks steps : ℕ) → verdict bytes ≡ Accepted shapes cells blocks steps
-    → (size : ℕ) (launch : Label) → reaches (launchLabel (parse bytes)) launch ≡ true → (events : List Event)
+    → (size : ℕ) (launch : Label) → reaches (firstBound (parse bytes)) launch ≡ true → (events : List Event)
     → P (parse bytes) size launch events
 
 -- The theorem. "A run begins fresh". "All this is a single claim about the list of events, not one for each kind of event."

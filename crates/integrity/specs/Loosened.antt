@@ -27,7 +27,7 @@ use Rattle.machine.specs.Histories.{History, append, lists}
 use Rattle.machine.specs.States.{Traced, Job, State}
 use Rattle.machine.specs.Acts.{Effect, blocked, keep, store, launch, blockedUnless, isFree, execLabel, acted, freshJob, newAct, startAct}
 use Rattle.machine.specs.Steps.{Turn, register, turn, stay, moved, gets, through, turnOf}
-use Rattle.machine.specs.Events.{Outcome, tableSize, launchLabel, noStepLeft, noSuch, blockOf, statedTrust, isOutsider, isLabel, blockExists, cellExists, valueExists, unchanged}
+use Rattle.machine.specs.Events.{Outcome, tableSize, firstBound, noStepLeft, noSuch, blockOf, statedTrust, isOutsider, isLabel, blockExists, cellExists, valueExists, unchanged}
 use Rattle.machine.specs.Events.{landed, turnLanded, ifSuch, brought, freshState, outcomeOf, stateAfter}
 use Rattle.integrity.specs.Integrity.{Sentences}
 use Rattle.integrity.specs.Weakened.{instead, asked, raised}
@@ -148,4 +148,4 @@ pub record NeededThere (place : String) : Type 0 where
   pub accepted : verdict bytes ≡ Accepted shapes cells blocks steps
   pub broken :
       Sentences (parse bytes)
-      (stateBy place (parse bytes) (freshState lists (parse bytes) (launchLabel (parse bytes))) events) → ⊥
+      (stateBy place (parse bytes) (freshState lists (parse bytes) (firstBound (parse bytes))) events) → ⊥

@@ -1,10 +1,11 @@
--- What the tables of a run say, demand 3: of every accepted book, every event list and whatever the lent memory held. proofs/Tables.antt
+-- What the tables of a run say, demand 3: of every accepted book, every launch label, every event list and whatever the lent memory held. proofs/Tables.antt
 -- proves it. 01, "What demand 3 speaks of". And that a job's block and position, and a value's number, fit their
 -- bytes: proofs/JobsFit.antt, proofs/NumbersFit.antt. All names here are of specs/, of this crate or of those below it. Assumes nothing.
 use mathlib.Core.Path.{_≡_}
 use mathlib.Core.List.{List}
 use Prim.Native.Nat.{ℕ, _+_, _*_, _<_, _≤_}
 use lib.ListN.{length}
+use Rattle.labels.specs.declared.Label.{Label}
 use Rattle.book.specs.declared.Refusal.the-variants.{Passed}
 use Rattle.book.specs.Records.{byteAt}
 pub use Rattle.book.specs.Spans.{Bytes}
@@ -12,6 +13,7 @@ use Rattle.book.specs.Book.{Book, parse}
 use Rattle.book.specs.Refusals.{unreadable}
 use Rattle.typing.specs.declared.Verdict.the-variants.{Accepted}
 use Rattle.typing.specs.Verdict.{verdict}
+use Rattle.machine.specs.declared.Launch.{Launch}
 use Rattle.machine.specs.Histories.{History}
 use Rattle.machine.specs.States.{State}
 use Rattle.machine.specs.Events.{blockOf}
@@ -44,11 +46,12 @@ pub record TablesKept (c : ℕ) (r : Run) : Type 0 where
   pub sources : (i : ℕ) → i < r .cellCount → c < trustIn r i → trustIn r i ≤ sourceIn r i
   pub jobs : (i : ℕ) → i < r .jobCount → c < jobLabelIn r i → jobLabelIn r i ≤ jobSourceIn r i
 
--- "For a run that isn't refused, the tables say the same." "A book is accepted when none of refusals 1 to 8 holds of it."
+-- "For a run that isn't refused, the tables say the same." "A book is accepted when none of refusals 1 to 8 holds of it." 02, Three: "The
+-- integrity guarantee has to cover every launch label up to the bound": one above it is refused by 14, and one up to it, or none, is not.
 abbrev pub Tables : Type 0
 Tables = (book : List ℕ) (shapes cells blocks steps : ℕ) → verdict book ≡ Accepted shapes cells blocks steps
-    → (list cellsBefore jobsBefore room : List ℕ) → ran book list cellsBefore jobsBefore room .refusal ≡ Passed
-    → TablesKept (parse book .c .0) (ran book list cellsBefore jobsBefore room)
+    → (launch : Launch) (list cellsBefore jobsBefore room : List ℕ) → ran book launch list cellsBefore jobsBefore room .refusal ≡ Passed
+    → TablesKept (parse book .c .0) (ran book launch list cellsBefore jobsBefore room)
 
 -- "a job record block, position (how many of the block's steps are done)": a block of the book, and no more steps than it has. "64 blocks or
 -- 64 steps in a block": so each fits its byte.
@@ -58,9 +61,10 @@ pub record JobFits (K : Book) (r : JobRecord) : Type 0 where
   pub block-small : r .block < 64
   pub position-small : r .position ≤ 64
 
--- "running 1 to 6": of every run of a book that can be read, accepted or not.
+-- "running 1 to 6": of every run of a book that can be read, accepted or not, at any launch label.
 abbrev pub JobsFit : Type 0
-JobsFit = (book : List ℕ) → unreadable book ≡ Passed → (list : List ℕ) (r : JobRecord) → r isIn jobRecords (finalState book list) → JobFits (parse book) r
+JobsFit = (book : List ℕ) → unreadable book ≡ Passed → (launch : Label) (list : List ℕ) (r : JobRecord) → r isIn jobRecords (finalState book launch list)
+    → JobFits (parse book) r
 
 -- "A value is plain (32 bits), a cell or a block": so the four bytes of a number in the tables lose nothing.
 pub record NumbersFitIn (K : Book) (s : State History) : Type 0 where
@@ -68,4 +72,5 @@ pub record NumbersFitIn (K : Book) (s : State History) : Type 0 where
   pub registers : (r : JobRecord) → r isIn jobRecords s → (v : ValueRecord) → v isIn r .registers → v .number < 4294967296
 
 abbrev pub NumbersFit : Type 0
-NumbersFit = (book : List ℕ) → Bytes book → unreadable book ≡ Passed → (list : List ℕ) → Bytes list → NumbersFitIn (parse book) (finalState book list)
+NumbersFit = (book : List ℕ) → Bytes book → unreadable book ≡ Passed → (launch : Label) (list : List ℕ) → Bytes list
+    → NumbersFitIn (parse book) (finalState book launch list)

@@ -33,7 +33,7 @@ use Rattle.typing.specs.Rules.{known, lowersTo, addable, lowRule, highRule, ste
 use Rattle.typing.specs.Verdict.{verdict}
 use Rattle.machine.specs.declared.Event.{Event}
 use Rattle.machine.specs.Histories.{lists}
-use Rattle.machine.specs.Events.{tableSize, launchLabel, freshState, stateAfter}
+use Rattle.machine.specs.Events.{tableSize, firstBound, freshState, stateAfter}
 use Rattle.integrity.specs.Integrity.{Sentences}
 
 -- the place that is weakened, by its name; "" weakens none
@@ -238,4 +238,4 @@ pub record Needed (place : String) : Type 0 where
   pub refused : verdict bytes ≡ Refused number offset
   pub broken :
       Sentences (parse bytes)
-      (stateAfter lists tableSize (parse bytes) (freshState lists (parse bytes) (launchLabel (parse bytes))) events) → ⊥
+      (stateAfter lists tableSize (parse bytes) (freshState lists (parse bytes) (firstBound (parse bytes))) events) → ⊥

@@ -32,9 +32,9 @@ use Rattle.interpreter.proofs.Starts.{placed-fresh}
 use Rattle.interpreter.proofs.Playing.{Playing, allowed-at, answering, blocks-count, further, known}
 
 -- the loop's variables, the offset p past the event e, the cell k that it reaches and its entry q of the table
-pub record Acting (b : List ℕ) (c : Label) (shapes offsets starts list room-cells room-jobs before now : List ℕ) (cells : List StoredCell) (n : ℕ)
+pub record Acting (b : List ℕ) (c launch : Label) (shapes offsets starts list room-cells room-jobs before now : List ℕ) (cells : List StoredCell) (n : ℕ)
     (jobs : List StoredJob) (m o at p : ℕ) (e : Event) (f : Bool) (k q : ℕ) : Type 0 where
-  pub w : Playing b c shapes offsets starts list room-cells room-jobs before now cells n jobs m o at
+  pub w : Playing b c launch shapes offsets starts list room-cells room-jobs before now cells n jobs m o at
   pub h : o < length list
   pub ep : p ≡ nextEvent list o
   pub here : getD list o 0 ≡ 80 → ⊥
@@ -48,6 +48,7 @@ pub record Acting (b : List ℕ) (c : Label) (shapes offsets starts list room-ce
 pub record SomeAct : Type 0 where
   pub b : List ℕ
   pub c : Label
+  pub launch : Label
   pub shapes : List ℕ
   pub offsets : List ℕ
   pub starts : List ℕ
@@ -67,11 +68,11 @@ pub record SomeAct : Type 0 where
   pub f : Bool
   pub k : ℕ
   pub q : ℕ
-  pub known : Acting b c shapes offsets starts list room-cells room-jobs before now cells n jobs m o at p e f k q
+  pub known : Acting b c launch shapes offsets starts list room-cells room-jobs before now cells n jobs m o at p e f k q
 
-module _ {b : List ℕ} {c : Label} {shapes offsets starts list room-cells room-jobs before now : List ℕ} {cells : List StoredCell} {n : ℕ} {jobs : List StoredJob}
+module _ {b : List ℕ} {c launch : Label} {shapes offsets starts list room-cells room-jobs before now : List ℕ} {cells : List StoredCell} {n : ℕ} {jobs : List StoredJob}
     {m o at p : ℕ} {e : Event} {f : Bool} {k q : ℕ}
-    (act : Acting b c shapes offsets starts list room-cells room-jobs before now cells n jobs m o at p e f k q) where
+    (act : Acting b c launch shapes offsets starts list room-cells room-jobs before now cells n jobs m o at p e f k q) where
   abbrev state : State Label
   state = act .w .going .state
 
@@ -83,7 +84,7 @@ module _ {b : List ℕ} {c : Label} {shapes offsets starts list room-cells room-
       (ex : effectOf (aimedAt e) x ≡ outside (nearby (record { cell = cell; cells = n; jobs = m })) e) (a : ℕ) (ea : a ≡ answerOf x) where
     -- behind the event, with these tables
     abbrev Onward : List StoredCell → ℕ → List StoredJob → ℕ → Type 0
-    Onward cells′ n′ jobs′ m′ = Playing b c shapes offsets starts list room-cells room-jobs before (set now at a) cells′ n′ jobs′ m′ p (at + 1)
+    Onward cells′ n′ jobs′ m′ = Playing b c launch shapes offsets starts list room-cells room-jobs before (set now at a) cells′ n′ jobs′ m′ p (at + 1)
 
     sight : cell ≡ getD cells (clamped (aimedAt e)) dc
     sight = ec ∙ ap (λ q. getD cells q dc) ((act .eq) ∙ ap clamped (act .ek))

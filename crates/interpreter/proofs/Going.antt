@@ -35,30 +35,30 @@ answer-put said before at a e h =
     (set-append-seam said (getD before (length said) 0) (drop (suc (length said)) before) a
     ∙ sym (append-assoc said (a ∷ []) (drop (suc (length said)) before)))
 
--- of the book b and the list, with the answers as they were before
-pub record Going (b list before answers-now : List ℕ) (cells : List StoredCell) (n : ℕ) (jobs : List StoredJob) (m at o : ℕ) : Type 0 where
+-- of the book b and the list, with job 0 launched at l, and the answers as they were before
+pub record Going (b : List ℕ) (l : Label) (list before answers-now : List ℕ) (cells : List StoredCell) (n : ℕ) (jobs : List StoredJob) (m at o : ℕ) : Type 0 where
   pub state : State Label
   pub holds : Holds b state cells n jobs m
-  pub rest : stateAfter sources tableSize (parse b) state (eventsFrom list o) ≡ stateAfter sources tableSize (parse b) (opening b) (eventsIn list)
+  pub rest : stateAfter sources tableSize (parse b) state (eventsFrom list o) ≡ stateAfter sources tableSize (parse b) (opening b l) (eventsIn list)
   pub said : List ℕ
   pub said-long : length said ≡ at
-  pub all : said ++ answers sources tableSize (parse b) state (eventsFrom list o) ≡ answers sources tableSize (parse b) (opening b) (eventsIn list)
+  pub all : said ++ answers sources tableSize (parse b) state (eventsFrom list o) ≡ answers sources tableSize (parse b) (opening b l) (eventsIn list)
   pub kept : answers-now ≡ said ++ drop at before
   pub whole : EventsWhole list o
   pub left : at + length (eventsFrom list o) ≡ length (eventsIn list)
 
 -- the answers are the machine's, then what stood there; the arrays hold the machine's state
-pub record Played (b list before after : List ℕ) (cells : List StoredCell) (n : ℕ) (jobs : List StoredJob) (m : ℕ) : Type 0 where
-  pub answered : after ≡ answers sources tableSize (parse b) (opening b) (eventsIn list) ++ drop (length (eventsIn list)) before
-  pub holds : Holds b (stateAfter sources tableSize (parse b) (opening b) (eventsIn list)) cells n jobs m
+pub record Played (b : List ℕ) (l : Label) (list before after : List ℕ) (cells : List StoredCell) (n : ℕ) (jobs : List StoredJob) (m : ℕ) : Type 0 where
+  pub answered : after ≡ answers sources tableSize (parse b) (opening b l) (eventsIn list) ++ drop (length (eventsIn list)) before
+  pub holds : Holds b (stateAfter sources tableSize (parse b) (opening b l) (eventsIn list)) cells n jobs m
 
-pub going-start : (b list before : List ℕ) (cells : List StoredCell) (n : ℕ) (jobs : List StoredJob) (m : ℕ) → EventsWhole list 0 → Holds b (opening b) cells n jobs m
-    → Going b list before before cells n jobs m 0 0
-going-start b list before cells n jobs m w h =
-    record { state = opening b; holds = h; rest = refl; said = []; said-long = refl; all = refl; kept = refl; whole = w; left = omega arith }
+pub going-start : (b : List ℕ) (l : Label) (list before : List ℕ) (cells : List StoredCell) (n : ℕ) (jobs : List StoredJob) (m : ℕ) → EventsWhole list 0
+    → Holds b (opening b l) cells n jobs m → Going b l list before before cells n jobs m 0 0
+going-start b l list before cells n jobs m w h =
+    record { state = opening b l; holds = h; rest = refl; said = []; said-long = refl; all = refl; kept = refl; whole = w; left = omega arith }
 
-module _ (b list before answers-now : List ℕ) (cells : List StoredCell) (n : ℕ) (jobs : List StoredJob) (m at o : ℕ)
-    (g : Going b list before answers-now cells n jobs m at o) where
+module _ (b : List ℕ) (l : Label) (list before answers-now : List ℕ) (cells : List StoredCell) (n : ℕ) (jobs : List StoredJob) (m at o : ℕ)
+    (g : Going b l list before answers-now cells n jobs m at o) where
   module _ (h : o < length list) (room : length (eventsIn list) ≤ length before) where
     events-are : eventsFrom list o ≡ eventAt list o ∷ eventsFrom list (nextEvent list o)
     events-are = walk list o (g .whole) h .events
@@ -73,7 +73,7 @@ module _ (b list before answers-now : List ℕ) (cells : List StoredCell) (n : �
 
       pub going-turn : (cells′ : List StoredCell) (n′ : ℕ) (jobs′ : List StoredJob) (m′ : ℕ)
           → Holds b t cells′ n′ jobs′ m′
-          → Going b list before (set answers-now at a) cells′ n′ jobs′ m′ (at + 1) p
+          → Going b l list before (set answers-now at a) cells′ n′ jobs′ m′ (at + 1) p
       unfolding stateAfter answers
       going-turn cells′ n′ jobs′ m′ hold =
           record {
@@ -93,13 +93,13 @@ module _ (b list before answers-now : List ℕ) (cells : List StoredCell) (n : �
             left = let q = ap length here in omega (arith, g .left);
           }
 
-  pub going-end : length list ≤ o → Played b list before answers-now cells n jobs m
+  pub going-end : length list ≤ o → Played b l list before answers-now cells n jobs m
   unfolding stateAfter answers
   going-end h =
       let q : eventsFrom list o ≡ [] = events-end list o h in
       let all-at : at ≡ length (eventsIn list) = let l = ap length q in omega (arith, g .left) in
-      let all-said : g .said ≡ answers sources tableSize (parse b) (opening b) (eventsIn list)
+      let all-said : g .said ≡ answers sources tableSize (parse b) (opening b l) (eventsIn list)
       = sym (append-nil (g .said)) ∙ sym (ap (λ (es : List Event). g .said ++ answers sources tableSize (parse b) (g .state) es) q) ∙ g .all in
-      let end : g .state ≡ stateAfter sources tableSize (parse b) (opening b) (eventsIn list)
+      let end : g .state ≡ stateAfter sources tableSize (parse b) (opening b l) (eventsIn list)
       = sym (ap (stateAfter sources tableSize (parse b) (g .state)) q) ∙ g .rest in
       record { answered = g .kept ∙ rw (all-said, all-at) refl; holds = rw (← end) (g .holds) }

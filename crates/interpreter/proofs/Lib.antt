@@ -12,3 +12,4 @@ pub mod Acting
 pub mod Opened
 pub mod Records
 pub mod Finishing
+pub mod Ran

@@ -41,8 +41,8 @@ declared-are b [] = refl
 declared-are b (o ∷ os) = rw (value-back (declaredAt b o .value), declared-are b os) refl
 
 -- what the loop asks for
-module _ (b : List ℕ) (c : Label) (shapes offsets starts : List ℕ) (bound : Label) (list cells jobs answers : List ℕ)
-    (y : Ready b c shapes offsets starts bound list cells jobs answers) where
+module _ (b : List ℕ) (c : Label) (shapes offsets starts list cells jobs answers : List ℕ)
+    (y : Ready b c shapes offsets starts list cells jobs answers) where
   few : length offsets ≤ 32
   few = rw (y .offsets-are) (most-cells b (readable b (y .readable) .few))
 
@@ -50,16 +50,16 @@ module _ (b : List ℕ) (c : Label) (shapes offsets starts : List ℕ) (bound : 
   open-listed = (rw (y .offsets-are) (listed b (readable b (y .readable))), omega (arith, few))
 
   -- job 0 stands first, before 63 that are not in use
-  pub opened : (held : List StoredCell) (none j : StoredJob) (start : ℕ) → length held ≡ 64 → take (length offsets) held ≡ openedCells b offsets
-      → start ≡ startIn starts 0 (length b) → jobOf j ≡ freshJob sources 0 bound bound → j .at ≡ start → j .position ≡ 0 → j .block ≡ 0
-      → Holds b (opening b) held (length offsets) (set (replicate 64 none) 0 j) 1
+  pub opened : (l : Label) (held : List StoredCell) (none j : StoredJob) (start : ℕ) → length held ≡ 64 → take (length offsets) held ≡ openedCells b offsets
+      → start ≡ startIn starts 0 (length b) → jobOf j ≡ freshJob sources 0 l l → j .at ≡ start → j .position ≡ 0 → j .block ≡ 0
+      → Holds b (opening b l) held (length offsets) (set (replicate 64 none) 0 j) 1
   unfolding parse
-  opened held none j start long e es ej ea ep eb =
+  opened l held none j start long e es ej ea ep eb =
       record {
         cells-are = ap (map cellOf) (e ∙ ap (openedCells b) (y .offsets-are)) ∙ declared-are b (cellsOf b);
         cells-long = long;
         cells-fit = omega (arith, few);
-        jobs-are = ap (λ (j : States.Job Label). j ∷ []) (ej ∙ ap (λ (l : Label). freshJob sources 0 l l) (y .bound-is));
+        jobs-are = ap (λ (j : States.Job Label). j ∷ []) ej;
         jobs-long = refl;
         jobs-fit = omega arith;
         some-job = omega arith;

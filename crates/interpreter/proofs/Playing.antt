@@ -1,10 +1,11 @@
 -- Laws of the loop over the events, for the code: what a callee gave stands as a variable with its equation.
+--     firstLabel   the label that job 0 has at the start
 --     Playing      what holds at each turn
 --     plays        the laws
 -- Assumes nothing.
 use mathlib.Core.Path.{_≡_, refl, sym, ap, _∙_}
 use mathlib.Core.Bool.{Bool, false}
-use mathlib.Core.List.{List, map}
+use mathlib.Core.List.{List, [], _∷_, map}
 use Prim.Native.Nat.{ℕ, _+_, _*_, _-_, _<_, _≤_}
 use native.Mathlib.Omega.{arith}
 use borrow.Author.Needs.{fits-under}
@@ -12,6 +13,7 @@ use mir.Val.{Fits}
 use mir.Syntax.{w64}
 use lib.ListN.{length, take, getD, set, replicate, length-set, length-map}
 use Rattle.labels.specs.declared.Label.{Label}
+use Rattle.labels.specs.Labels.{label}
 use Rattle.book.specs.declared.Refusal.the-variants.{Passed}
 use Rattle.book.specs.Spans.{byteAt}
 use Rattle.book.specs.Stretch.{stepEnd}
@@ -23,6 +25,7 @@ use Rattle.machine.specs.Histories.{sources}
 use Rattle.machine.specs.declared.Event.{Event}
 use Rattle.machine.specs.declared.Event.the-variants.{StepOf}
 use Rattle.machine.specs.States.{State}
+use Rattle.machine.specs.States as States
 use Rattle.machine.specs.Acts.{freshJob}
 use Rattle.machine.specs.Events.{tableSize, Outcome, outcomeOf}
 use Rattle.events.specs.Bytes.{nextEvent, eventAt}
@@ -46,33 +49,47 @@ use Rattle.interpreter.proofs.Narrows.{played-narrow}
 use Rattle.interpreter.proofs.Opened.{opened}
 use Rattle.interpreter.proofs.Finishing.{finish-is}
 
--- of the memory lent for the tables only its length matters
-pub record Playing (b : List ℕ) (c : Label) (shapes offsets starts list room-cells room-jobs before now : List ℕ) (cells : List StoredCell)
+-- The loop does not look at the launch label, so its invariant is given the array of jobs as it was at the start.
+abbrev pub firstLabel : List StoredJob → Label
+firstLabel [] = label 0
+firstLabel (j ∷ js) = j .label
+
+pub first-launched : (j : StoredJob) (l : Label) → jobOf j ≡ freshJob sources 0 l l → j .label ≡ l
+first-launched j l e = ap (λ (j : States.Job Label). j .label) e
+
+-- job 0 was launched at this label; of the memory lent for the tables only its length matters
+pub record Playing (b : List ℕ) (c launch : Label) (shapes offsets starts list room-cells room-jobs before now : List ℕ) (cells : List StoredCell)
     (n : ℕ) (jobs : List StoredJob) (m o at : ℕ) : Type 0 where
-  pub bound : Label
-  pub setting : Ready b c shapes offsets starts bound list room-cells room-jobs before
-  pub going : Going b list before now cells n jobs m at o
+  pub setting : Ready b c shapes offsets starts list room-cells room-jobs before
+  pub going : Going b launch list before now cells n jobs m at o
   pub long : length now ≡ length before
   pub cells-fit : n ≤ 64
   pub inside : o ≤ length list
   pub at-most : at ≤ o
 
-pub playing-start : (b : List ℕ) (c : Label) (shapes offsets starts : List ℕ) (bound : Label) (list room-cells room-jobs before : List ℕ)
-    → Ready b c shapes offsets starts bound list room-cells room-jobs before
+-- the same run, its label by another name
+at-label : {b : List ℕ} {c k launch : Label} {shapes offsets starts list room-cells room-jobs before now : List ℕ} {cells : List StoredCell} {n : ℕ}
+    {jobs : List StoredJob} {m o at : ℕ} → k ≡ launch → Playing b c launch shapes offsets starts list room-cells room-jobs before now cells n jobs m o at
+    → Playing b c k shapes offsets starts list room-cells room-jobs before now cells n jobs m o at
+at-label e w = rw e w
+
+pub playing-start : (b : List ℕ) (c : Label) (shapes offsets starts list room-cells room-jobs before : List ℕ)
+    → Ready b c shapes offsets starts list room-cells room-jobs before → (l : Label)
     → (cells : List StoredCell) (none j : StoredJob) (start : ℕ) → length cells ≡ 64 → take (length offsets) cells ≡ openedCells b offsets
-    → start ≡ startIn starts 0 (length b) → (jobOf j ≡ freshJob sources 0 bound bound) × (j .at ≡ start) × (j .position ≡ 0) × (j .block ≡ 0)
-    → Playing b c shapes offsets starts list room-cells room-jobs before before cells (length offsets) (set (replicate 64 none) 0 j) 1 0 0
-playing-start b c shapes offsets starts bound list room-cells room-jobs before y cells none j start long e es f =
-    let h = opened b c shapes offsets starts bound list room-cells room-jobs before y cells none j start long e es (f .0) (f .1) (f .2) (f .3) in
-    record {
-      bound = bound;
+    → start ≡ startIn starts 0 (length b) → (jobOf j ≡ freshJob sources 0 l l) × (j .at ≡ start) × (j .position ≡ 0) × (j .block ≡ 0)
+    → Playing b c (firstLabel (set (replicate 64 none) 0 j)) shapes offsets starts list room-cells room-jobs before before cells (length offsets)
+    (set (replicate 64 none) 0 j) 1 0 0
+playing-start b c shapes offsets starts list room-cells room-jobs before y l cells none j start long e es f =
+    let h = opened b c shapes offsets starts list room-cells room-jobs before y l cells none j start long e es (f .0) (f .1) (f .2) (f .3) in
+    at-label (first-launched j l (f .0))
+    (record {
       setting = y;
-      going = going-start b list before cells (length offsets) (set (replicate 64 none) 0 j) 1 (passed-whole list (y .lent .playable)) h;
+      going = going-start b l list before cells (length offsets) (set (replicate 64 none) 0 j) 1 (passed-whole list (y .lent .playable)) h;
       long = refl;
       cells-fit = h .cells-fit;
       inside = omega arith;
       at-most = omega arith;
-    }
+    })
 
 -- where an entry of the array of jobs lies
 pub entry-fits : (i : ℕ) → i < 64 → Fits w64 (i * 80)
@@ -89,12 +106,12 @@ pub blocks-count : (b starts : List ℕ) → starts ≡ map startAt (blocksOf b)
 unfolding parse
 blocks-count b starts e = ap length e ∙ length-map (blocksOf b) startAt ∙ sym (length-map (blocksOf b) (blockAt b))
 
-module _ {b : List ℕ} {c : Label} {shapes offsets starts list room-cells room-jobs before now : List ℕ} {cells : List StoredCell} {n : ℕ} {jobs : List StoredJob}
+module _ {b : List ℕ} {c launch : Label} {shapes offsets starts list room-cells room-jobs before now : List ℕ} {cells : List StoredCell} {n : ℕ} {jobs : List StoredJob}
     {m o at : ℕ}
-    (w : Playing b c shapes offsets starts list room-cells room-jobs before now cells n jobs m o at) where
+    (w : Playing b c launch shapes offsets starts list room-cells room-jobs before now cells n jobs m o at) where
   -- the same run, with these answers, cells and jobs, at this offset and place
   abbrev Run-at : List ℕ → List StoredCell → ℕ → List StoredJob → ℕ → ℕ → ℕ → Type 0
-  Run-at = Playing b c shapes offsets starts list room-cells room-jobs before
+  Run-at = Playing b c launch shapes offsets starts list room-cells room-jobs before
 
   -- every job of the array is where the book says
   pub playing-small : (i : ℕ) (d : StoredJob) → i < m → getD jobs i d .position < 65535
@@ -108,15 +125,16 @@ module _ {b : List ℕ} {c : Label} {shapes offsets starts list room-cells room-
 
   pub playing-begun : length list ≤ o → (m ≤ 64) × (length room-jobs ≡ 3328) × NarrowJobs jobs m
   playing-begun h =
-      let p = going-end b list before now cells n jobs m at o (w .going) h in
-      (w .going .holds .jobs-fit, w .setting .lent .jobs-sized, played-narrow b list before now cells n jobs m (w .setting .readable) p)
+      let p = going-end b launch list before now cells n jobs m at o (w .going) h in
+      (w .going .holds .jobs-fit, w .setting .lent .jobs-sized, played-narrow b launch list before now cells n jobs m (w .setting .readable) p)
 
-  pub playing-end : (x y : List ℕ) → length list ≤ o → x ≡ savedCells shapes (take n cells) → y ≡ savedJobs (take m jobs)
+  pub playing-end : (l : Label) → launch ≡ l → (x y : List ℕ) → length list ≤ o → x ≡ savedCells shapes (take n cells) → y ≡ savedJobs (take m jobs)
       → _≡_ {A = Run} (record { refusal = Passed; cellCount = n; jobCount = m; cells = x; jobs = y; answered = now })
-      (ranOf Passed b list room-cells room-jobs before)
-  playing-end x y h ex ey =
-      finish-is b shapes list room-cells room-jobs before (w .setting .shapes-are) cells n jobs m now
-      (going-end b list before now cells n jobs m at o (w .going) h) x y ex ey
+      (ranOf Passed b l list room-cells room-jobs before)
+  playing-end l el x y h ex ey =
+      rw (← el)
+      (finish-is b launch shapes list room-cells room-jobs before (w .setting .shapes-are) cells n jobs m now
+      (going-end b launch list before now cells n jobs m at o (w .going) h) x y ex ey)
 
   pub playing-fit : (n ≤ 64) × (m ≤ 64)
   playing-fit = (w .cells-fit, w .going .holds .jobs-fit)
@@ -132,7 +150,7 @@ module _ {b : List ℕ} {c : Label} {shapes offsets starts list room-cells room-
     playing-off = omega (arith, passed-short list (w .setting .lent .playable))
 
     pub playing-fits : at < length now
-    playing-fits = let f = answer-fits b list before now cells n jobs m at o (w .going) h (w .setting .lent .room) in omega (arith, w .long)
+    playing-fits = let f = answer-fits b launch list before now cells n jobs m at o (w .going) h (w .setting .lent .room) in omega (arith, w .long)
 
     pub playing-falls : (p : ℕ) → p ≡ nextEvent list o → length list - p < length list - o
     playing-falls p ep = let k = walk list o (w .going .whole) h in omega (arith, ep, k .further, k .inside)
@@ -145,9 +163,8 @@ module _ {b : List ℕ} {c : Label} {shapes offsets starts list room-cells room-
     further e ee p ep a t lands cells′ n′ jobs′ m′ f q =
         let k = walk list o (w .going .whole) h in
         record {
-          bound = w .bound;
           setting = w .setting;
-          going = going-turn b list before now cells n jobs m at o (w .going) h (w .setting .lent .room) e ee p ep a t lands cells′ n′ jobs′ m′ q;
+          going = going-turn b launch list before now cells n jobs m at o (w .going) h (w .setting .lent .room) e ee p ep a t lands cells′ n′ jobs′ m′ q;
           long = length-set now at a ∙ w .long;
           cells-fit = f;
           inside = omega (arith, ep, k .inside);

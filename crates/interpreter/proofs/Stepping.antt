@@ -76,9 +76,9 @@ blocks n ks (Launch y l s) (acts e) a k = absurd (elsewhere n ks 5 e a k)
 
 -- a step that stands, its cell looked up: the loop's variables, the job's number i, where the step stands, z, and ends, u, the register t that names
 -- the cell, and its entry q of the table
-pub record Stepping (b : List ℕ) (c : Label) (shapes offsets starts list room-cells room-jobs before now : List ℕ) (cells : List StoredCell) (n : ℕ)
+pub record Stepping (b : List ℕ) (c launch : Label) (shapes offsets starts list room-cells room-jobs before now : List ℕ) (cells : List StoredCell) (n : ℕ)
     (jobs : List StoredJob) (m o at i : ℕ) (d : StoredJob) (z u : ℕ) (t : Stored) (q : ℕ) : Type 0 where
-  pub w : Playing b c shapes offsets starts list room-cells room-jobs before now cells n jobs m o at
+  pub w : Playing b c launch shapes offsets starts list room-cells room-jobs before now cells n jobs m o at
   pub h : o < length list
   pub here : getD list o 0 ≡ 80
   pub ei : i ≡ byteAt list (o + 1)
@@ -93,6 +93,7 @@ pub record Stepping (b : List ℕ) (c : Label) (shapes offsets starts list room-
 pub record SomeStep : Type 0 where
   pub b : List ℕ
   pub c : Label
+  pub launch : Label
   pub shapes : List ℕ
   pub offsets : List ℕ
   pub starts : List ℕ
@@ -113,11 +114,11 @@ pub record SomeStep : Type 0 where
   pub u : ℕ
   pub t : Stored
   pub q : ℕ
-  pub known : Stepping b c shapes offsets starts list room-cells room-jobs before now cells n jobs m o at i d z u t q
+  pub known : Stepping b c launch shapes offsets starts list room-cells room-jobs before now cells n jobs m o at i d z u t q
 
-module _ {b : List ℕ} {c : Label} {shapes offsets starts list room-cells room-jobs before now : List ℕ} {cells : List StoredCell} {n : ℕ} {jobs : List StoredJob}
+module _ {b : List ℕ} {c launch : Label} {shapes offsets starts list room-cells room-jobs before now : List ℕ} {cells : List StoredCell} {n : ℕ} {jobs : List StoredJob}
     {m o at i : ℕ} {d : StoredJob} {z u : ℕ} {t : Stored} {q : ℕ}
-    (step : Stepping b c shapes offsets starts list room-cells room-jobs before now cells n jobs m o at i d z u t q) where
+    (step : Stepping b c launch shapes offsets starts list room-cells room-jobs before now cells n jobs m o at i d z u t q) where
   abbrev state : State Label
   state = step .w .going .state
 
@@ -126,7 +127,7 @@ module _ {b : List ℕ} {c : Label} {shapes offsets starts list room-cells room-
 
   -- behind the event, with this answer and these tables
   abbrev Onward : ℕ → List StoredCell → ℕ → List StoredJob → ℕ → Type 0
-  Onward a cells′ n′ jobs′ m′ = Playing b c shapes offsets starts list room-cells room-jobs before (set now at a) cells′ n′ jobs′ m′ (o + 2) (at + 1)
+  Onward a cells′ n′ jobs′ m′ = Playing b c launch shapes offsets starts list room-cells room-jobs before (set now at a) cells′ n′ jobs′ m′ (o + 2) (at + 1)
 
   found : stepFound b (getD jobs i d .at) ≡ StepThere (stepAt b z) u
   found = rw (← (step .ez)) (sym (Decoded.step-some b z u (step .eu) (step .un) (stepAt b z) refl))

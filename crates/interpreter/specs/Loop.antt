@@ -17,7 +17,7 @@ use Rattle.book.specs.Outline.{shapeIn, startAt}
 use Rattle.book.specs.Asked.{Whole}
 use Rattle.machine.specs.States.{State}
 use Rattle.machine.specs.Histories.{sources}
-use Rattle.machine.specs.Events.{tableSize, launchLabel, blockOf, freshState}
+use Rattle.machine.specs.Events.{tableSize, blockOf, freshState}
 use Rattle.events.specs.Bytes.{eventsIn, unplayable}
 use Rattle.tables.specs.Bytes.{cellTableLength, jobTableLength}
 use Rattle.acts.specs.declared.StoredCell.{StoredCell}
@@ -42,9 +42,9 @@ pub record Holds (b : List ℕ) (s : State Label) (cells : List StoredCell) (n :
   pub some-job : 0 < m
   pub placed : (i : ℕ) (d : StoredJob) → i < m → Placed b (getD jobs i d)
 
--- the machine's state at the start, over sources
-abbrev pub opening : List ℕ → State Label
-opening b = freshState sources (parse b) (launchLabel (parse b))
+-- the machine's state at the start, over sources, with job 0 at this label
+abbrev pub opening : List ℕ → Label → State Label
+opening b l = freshState sources (parse b) l
 
 -- a list of events, and memory for the tables and the answers: what refusals 9 to 11 do not hold of
 pub record Lent (list cells jobs answers : List ℕ) : Type 0 where
@@ -54,11 +54,10 @@ pub record Lent (list cells jobs answers : List ℕ) : Type 0 where
   pub jobs-sized : length jobs ≡ jobTableLength
 
 -- a readable book, the parts of its outline that the loop is lent, and what is lent to the run
-pub record Ready (b : List ℕ) (c : Label) (shapes offsets starts : List ℕ) (bound : Label) (list cells jobs answers : List ℕ) : Type 0 where
+pub record Ready (b : List ℕ) (c : Label) (shapes offsets starts list cells jobs answers : List ℕ) : Type 0 where
   pub readable : unreadable b ≡ Passed
   pub c-is : c ≡ parse b .c
   pub shapes-are : (i : ℕ) → shapeIn shapes i ≡ getD (parse b .shapes) i noShape
   pub offsets-are : offsets ≡ cellsOf b
   pub starts-are : starts ≡ map startAt (blocksOf b)
-  pub bound-is : bound ≡ launchLabel (parse b)
   pub lent : Lent list cells jobs answers

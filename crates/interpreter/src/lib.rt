@@ -19,7 +19,7 @@ pub struct RunResult {
     pub jobs: usize,
 }
 
-// Runs the events from the fresh state, and saves the tables. A step that is not answered at once is told apart by what it can do, so that each arm
+// Runs the events from the fresh state, job 0 at the launch label, and saves the tables. A step that is not answered at once is told apart by what it can do, so that each arm
 // has one effect to carry out; an outsider's act has an arm of its own.
 pub fn play(
     book: &[u8],
@@ -27,21 +27,21 @@ pub fn play(
     shapes: &[u8],
     offsets: &[u16],
     starts: &[u16],
-    bound: Label,
+    launch: Label,
     list: &[u8],
     cells: &mut [u8],
     jobs: &mut [u8],
     answers: &mut [u8],
 ) -> RunResult
-    requires { ⌜ Ready (now book) c (now shapes) (now offsets) (now starts) bound (now list) (now cells) (now jobs) (now answers) ⌝ }
+    requires { ⌜ Ready (now book) c (now shapes) (now offsets) (now starts) (now list) (now cells) (now jobs) (now answers) ⌝ }
     ensures { λ r. ⌜ runBy r (now (cells .exit)) (now (jobs .exit)) (now (answers .exit))
-        ≡ ranOf Passed (now (book .entry)) (now (list .entry)) (now (cells .entry)) (now (jobs .entry)) (now (answers .entry)) ⌝ }
+        ≡ ranOf Passed (now (book .entry)) launch (now (list .entry)) (now (cells .entry)) (now (jobs .entry)) (now (answers .entry)) ⌝ }
     ensures { λ r. ⌜ (r .cells ≤ 64) × (r .jobs ≤ 64) ⌝ }
 {
     let mut held = tables::open_cells(book, offsets);
     let none = StoredJob::fresh(0, 0, Label(0), Label(0));
     let mut begun = [none; StoredJob::TABLE_SIZE];
-    let first = StoredJob::fresh(0, tables::start_of(starts, 0, book.len()), bound, bound);
+    let first = StoredJob::fresh(0, tables::start_of(starts, 0, book.len()), launch, launch);
     begun[0] = first;
     let mut n = offsets.len();
     let mut m: usize = 1;

@@ -12,12 +12,12 @@ use Rattle.book.specs.Refusals.{valueNamed}
 use Rattle.machine.specs.Control.{given, onPlain, onCell, onCode}
 use Rattle.machine.specs.Acts.{execLabel, writeAct, relabelAct, newAct, startAct, execAct}
 use Rattle.machine.specs.Steps.{summable, addStep, readStep, lowerStep, turnOf}
-use Rattle.machine.specs.Events.{landed, turnLanded, outcomeOf, stateAfter, answers}
-use Rattle.machine.specs.Samples.{SampleRuns, HistoryRun, TopSums}
+use Rattle.machine.specs.Events.{launchedAt, landed, turnLanded, outcomeOf, stateAfter, answers}
+use Rattle.machine.specs.Samples.{SampleRuns, HistoryRun, TopSums, LaunchRuns}
 
 pub sample-runs : SampleRuns
 unfolding lower both either those while span limits group numberAt cutBy offsetsIn offsetsBy groupOf stepsFrom shapeAt valueOf declaredAt stepAt blockAt parse valueNamed
-    onSome given onPlain onCell onCode execLabel writeAct relabelAct newAct startAct execAct summable addStep readStep lowerStep turnOf landed turnLanded outcomeOf stateAfter answers
+    onSome given onPlain onCell onCode execLabel writeAct relabelAct newAct startAct execAct summable addStep readStep lowerStep turnOf launchedAt landed turnLanded outcomeOf stateAfter answers
 sample-runs =
     record {
       high-answers = refl;
@@ -30,11 +30,11 @@ sample-runs =
 
 pub history-run : HistoryRun
 unfolding lower both either those while span limits group numberAt cutBy offsetsIn offsetsBy groupOf stepsFrom shapeAt valueOf declaredAt stepAt blockAt parse valueNamed
-    onSome given onPlain onCell onCode execLabel writeAct relabelAct newAct startAct execAct summable addStep readStep lowerStep turnOf landed turnLanded outcomeOf stateAfter answers
+    onSome given onPlain onCell onCode execLabel writeAct relabelAct newAct startAct execAct summable addStep readStep lowerStep turnOf launchedAt landed turnLanded outcomeOf stateAfter answers
 history-run = record { cells = refl; jobs = refl }
 
 pub top-sums : TopSums
-unfolding onSome given onPlain summable addStep turnOf landed turnLanded outcomeOf stateAfter answers
+unfolding onSome given onPlain summable addStep turnOf launchedAt landed turnLanded outcomeOf stateAfter answers
 top-sums =
     record {
       top-and-one = record { answered = refl; state = refl };
@@ -43,3 +43,8 @@ top-sums =
       top-and-none = record { answered = refl; value = refl };
       nearly-halves = record { answered = refl; value = refl };
     }
+
+pub launch-runs : LaunchRuns
+unfolding lower both either those while span limits group numberAt cutBy offsetsIn offsetsBy groupOf stepsFrom shapeAt valueOf declaredAt stepAt blockAt parse valueNamed
+    onSome given onPlain onCell onCode execLabel writeAct relabelAct newAct startAct execAct summable addStep readStep lowerStep turnOf launchedAt landed turnLanded outcomeOf stateAfter answers
+launch-runs = record { low-answers = refl; low-job = refl; given-answers = refl; given-job = refl; bounds = refl; defaults = refl }

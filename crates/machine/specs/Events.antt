@@ -2,21 +2,24 @@
 --     done, blockedAnswer, noStepLeft, noSuch    the answers
 --     Outcome, landed                            an event's answer and the state after it
 --     outcomeOf                                  what an event does
+--     launchLabel                                the label of job 0
 --     freshState, stateAfter, answers            the fresh state; a list of events, one after the other
 -- Every book and every list of events has an answer, an accepted book or not, any number in any field. Assumes nothing.
-use Prim.Native.Nat.{ℕ}
+use Prim.Native.Nat.{ℕ, _+_}
 use mathlib.Core.Bool.{Bool, not}
 use mathlib.Core.List.{List, [], _∷_, _++_, map}
 use lib.Dec.{leb, ltb}
 use lib.ListN.{length, getD, set, getElem?}
 use Rattle.labels.specs.declared.Label.{Label}
 use Rattle.labels.specs.declared.Trust.{Trust}
-use Rattle.labels.specs.Labels.{label, topLabel, reaches, isHigh}
+use Rattle.labels.specs.Labels.{label, topLabel, lower, reaches, isHigh}
 use Rattle.book.specs.declared.Declared.{Declared}
 use Rattle.book.specs.Numbers.{maxValueKind}
 use Rattle.book.specs.Control.{both, onSome}
 use Rattle.book.specs.Book.{Book, Block, valueOf}
 use Rattle.book.specs.Refusals.{noShape, hasCellShape, valueNamed}
+use Rattle.machine.specs.declared.Launch.{Launch}
+use Rattle.machine.specs.declared.Launch.the-variants.{Default, Given}
 use Rattle.machine.specs.declared.Event.{Event}
 use Rattle.machine.specs.declared.Event.the-variants.{StepOf, WriteBy, RelabelBy, NewBy, ExecBy, StartBy}
 use Rattle.machine.specs.Control.{given}
@@ -49,9 +52,17 @@ noBlock = record { bound = label 0; steps = [] }
 abbrev pub blockOf : Book → ℕ → Block
 blockOf K b = getD (K .blocks) b noBlock
 
--- "Job 0 runs block 0 at its bound, history that bound."
-abbrev pub launchLabel : Book → Label
-launchLabel K = blockOf K 0 .bound
+-- 02, Three: "block 0's bound"
+abbrev pub firstBound : Book → Label
+firstBound K = blockOf K 0 .bound
+
+-- 02, Three: "A run now takes a launch label for job 0". "Without one it is the smaller of C plus 1 and the bound."
+unfoldable pub launchedAt : Label → Label → Launch → Label
+launchedAt c bound Default = lower (label (c .0 + 1)) bound
+launchedAt c bound (Given l) = l
+
+abbrev pub launchLabel : Book → Launch → Label
+launchLabel K = launchedAt (K .c) (firstBound K)
 
 -- a shape's trust, as the book states it
 abbrev pub statedTrust : Book → ℕ → Trust
@@ -120,7 +131,7 @@ module _ (A : Histories) where
   abbrev pub declared : Declared → Cell H
   declared d = record { shape = d .shape; label = d .label; content = record { value = d .value; history = one topLabel } }
 
-  -- "A run begins fresh: .. job 0 is its only job". It runs block 0 at the launch label, which is also its history.
+  -- "A run begins fresh: .. job 0 is its only job". 02, Three: "a launch label for job 0, which is also its history"
   abbrev pub freshState : Book → Label → State H
   freshState K l = record { cells = map declared (K .cells); jobs = freshJob A 0 l (one l) ∷ [] }
 

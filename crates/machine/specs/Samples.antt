@@ -2,10 +2,12 @@
 --     SampleRuns       those of 01, "Sample books"
 --     HistoryRun       one that has nearly every act, with the histories that it leaves
 --     TopSums          sums at the top: 02, Two
+--     LaunchRuns       book A launched low, and the default label: 02, Three
 -- Assumes nothing.
 use Prim.Native.Nat.{ℕ}
 use mathlib.Core.Path.{_≡_}
 use mathlib.Core.List.{List, [], _∷_, map}
+use lib.ListN.{replicate}
 use Rattle.labels.specs.declared.Label.{Label}
 use Rattle.labels.specs.Labels.{label, trust}
 use Rattle.book.specs.declared.Value.{Value}
@@ -13,23 +15,33 @@ use Rattle.book.specs.declared.Value.the-variants.{Plain, CodeName}
 use Rattle.book.specs.declared.Step.the-variants.{Put, Add}
 use Rattle.book.specs.Book.{Book, parse}
 use Rattle.book.specs.Samples.{bookA, lastWrite}
+use Rattle.machine.specs.declared.Launch.{Launch}
+use Rattle.machine.specs.declared.Launch.the-variants.{Default, Given}
 use Rattle.machine.specs.declared.Event.{Event}
 use Rattle.machine.specs.declared.Event.the-variants.{StepOf, WriteBy, RelabelBy, NewBy, ExecBy, StartBy}
 use Rattle.machine.specs.Histories.{History, hands, lists}
-use Rattle.machine.specs.States.{Cell, Job, State}
+use Rattle.machine.specs.States.{Traced, Cell, Job, State}
 use Rattle.machine.specs.Steps.{register}
-use Rattle.machine.specs.Events.{tableSize, launchLabel, freshState, stateAfter, answers}
+use Rattle.machine.specs.Events.{tableSize, firstBound, launchedAt, launchLabel, freshState, stateAfter, answers}
 use Rattle.machine.specs.Records.{CellRecord, cellRecords}
 
 -- book A, with this bound
 abbrev pub ofBound : ℕ → Book
 ofBound b = parse (bookA 0x09 0x09 b lastWrite)
 
+-- job 0 launched so
+abbrev pub begun : Book → Launch → State History
+begun K launch = freshState lists K (launchLabel K launch)
+
+-- 02, Three: "01's sample runs relied on the bound, so each of them now passes it"
+abbrev pub atBound : Book → Launch
+atBound K = Given (firstBound K)
+
 abbrev pub answersOf : Book → List Event → List ℕ
-answersOf K es = answers lists tableSize K (freshState lists K (launchLabel K)) es
+answersOf K es = answers lists tableSize K (begun K (atBound K)) es
 
 abbrev pub reached : Book → List Event → State History
-reached K es = stateAfter lists tableSize K (freshState lists K (launchLabel K)) es
+reached K es = stateAfter lists tableSize K (begun K (atBound K)) es
 
 abbrev pub cellsAfter : Book → List Event → List CellRecord
 cellsAfter K es = cellRecords K (reached K es)
@@ -144,3 +156,31 @@ pub record TopSums : Type 0 where
   pub two-tops : SumBlocked 4294967295 4294967295
   pub top-and-none : SumDone 4294967295 0 4294967295
   pub nearly-halves : SumDone 2147483647 2147483648 4294967295
+
+-- a job's label, its history, and the histories of its registers
+abbrev pub handsOf : Job History → ℕ × List ℕ × List (List ℕ)
+handsOf j = (j .label .0, numbers (j .history), map (λ (v : Traced History). numbers (v .history)) (j .registers))
+
+-- a job that is launched at this label
+abbrev pub handsAt : ℕ → ℕ × List ℕ × List (List ℕ)
+handsAt l = (l, l ∷ [], replicate 8 (l ∷ []))
+
+-- two blocks, of these bounds
+abbrev pub ofBounds : ℕ → ℕ → Book
+ofBounds a b =
+    record { c = label 3; shapes = []; cells = []; blocks = record { bound = label a; steps = [] } ∷ record { bound = label b; steps = [] } ∷ [] }
+
+-- the default label, by C and the bound
+abbrev pub byDefault : ℕ → ℕ → ℕ
+byDefault c b = launchedAt (label c) (label b) Default .0
+
+-- 02, Three. Book A has C 3 and the bound 12, and writes a cell of label 9.
+pub record LaunchRuns : Type 0 where
+  pub low-answers : answers lists tableSize (ofBound 0x0C) (begun (ofBound 0x0C) Default) fourSteps ≡ 0 ∷ 0 ∷ 1 ∷ 1 ∷ []
+  pub low-job : map handsOf (begun (ofBound 0x0C) Default .jobs) ≡ handsAt 4 ∷ []
+  pub given-answers : answers lists tableSize (ofBound 0x0C) (begun (ofBound 0x0C) (Given (label 9))) fourSteps ≡ 0 ∷ 0 ∷ 0 ∷ 2 ∷ []
+  pub given-job : map handsOf (begun (ofBound 0x0C) (Given (label 9)) .jobs) ≡ handsAt 9 ∷ []
+  -- "block 0's bound", whatever that of block 1 is
+  pub bounds : firstBound (ofBounds 12 2) .0 ∷ firstBound (ofBounds 2 12) .0 ∷ [] ≡ 12 ∷ 2 ∷ []
+  -- "the smaller of C plus 1 and the bound": C plus 1 below the bound, at it, and above it
+  pub defaults : byDefault 3 5 ∷ byDefault 3 4 ∷ byDefault 3 3 ∷ byDefault 3 0 ∷ byDefault 14 15 ∷ [] ≡ 4 ∷ 4 ∷ 3 ∷ 0 ∷ 15 ∷ []

@@ -4,6 +4,12 @@ pub mod kind;
 
 use labels::Label;
 
+// The label that a run is given for job 0: none, or one.
+pub enum Launch {
+    Default,
+    Given(Label),
+}
+
 // An event, its fields in the record's order: 80 step job; by an outsider at a label, 81 write cell, value kind, number; 82 relabel
 // cell, label; 83 new shape, value kind, number; 84 exec cell; 85 start block.
 pub enum Event {

@@ -1,4 +1,4 @@
--- What a run that is not refused has.
+-- What a run that is not refused by 1 to 6 and 9 to 11 has.
 --     Runnable      a readable book and its outline, and what is lent
 -- Assumes nothing.
 use Prim.Native.Nat.{ℕ}
@@ -10,7 +10,7 @@ use Rattle.book.specs.Refusals.{unreadable}
 use Rattle.book.specs.Outline.{outlineOf}
 use Rattle.interpreter.specs.Loop.{Lent}
 
--- a readable book and its outline, and what is lent: what no refusal holds of
+-- a readable book and its outline, and what is lent: what refusals 1 to 6 and 9 to 11 do not hold of
 pub record Runnable (b : List ℕ) (t : Outline) (list cells jobs answers : List ℕ) : Type 0 where
   pub readable : unreadable b ≡ Passed
   pub outlined : t ≡ outlineOf b

@@ -2,19 +2,23 @@
 --     checked, found         the verdict on a book; a block's stretch
 --     Call, called           a run: what is answered, and what the lent memory holds after the call
 --     fieldsTold             the record or the event at an offset
---     labelOf                a number as a label
+--     labelOf, launchOf      a number as a label; as a launch label or none
 --     WriteCall, wrote       a book from tables: what is answered, and what the buffer holds
 -- Assumes nothing.
 use Prim.Native.Nat.{ℕ, min}
 use mathlib.Core.List.{List}
+use lib.Dec.{eqb}
 use Rattle.labels.specs.declared.Label.{Label}
 use Rattle.labels.specs.Labels.{label}
 use Rattle.book.specs.declared.Refusal.{Refusal}
 use Rattle.book.specs.declared.Refusal.the-variants.{Passed}
 use Rattle.book.specs.declared.Refusal.the-variants as R
 use Rattle.book.specs.declared.Found.{Found}
+use Rattle.book.specs.Control.{if_then_else_}
 use Rattle.typing.specs.declared.Verdict.{Verdict}
 use Rattle.typing.specs.declared.Verdict.the-variants.{Accepted, Refused}
+use Rattle.machine.specs.declared.Launch.{Launch}
+use Rattle.machine.specs.declared.Launch.the-variants.{Default, Given}
 use Rattle.interpreter.specs.Run.{Run}
 use Rattle.listing.specs.declared.Fields.{Fields}
 use Rattle.rows.specs.Write.{WriteResult}
@@ -73,6 +77,13 @@ fieldsTold f =
 -- what is larger than a byte counts as 255, which is above every label
 unfoldable pub labelOf : ℕ → Label
 labelOf n = label (min n 255)
+
+-- 02, Three: "A run now takes a launch label". XEMDULBA_DEFAULT_LAUNCH, the largest number of 32 bits, stands for none.
+abbrev pub defaultLaunch : ℕ
+defaultLaunch = 4294967295
+
+unfoldable pub launchOf : ℕ → Launch
+launchOf n = if eqb n defaultLaunch then Default else Given (labelOf n)
 
 -- 0 stands for a book that is written
 unfoldable pub writtenBy : Refusal → ℕ → Written

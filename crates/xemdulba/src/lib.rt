@@ -2,6 +2,7 @@
 use book::Refusal;
 use labels::Label;
 use listing::Fields;
+use machine::Launch;
 use typing::Verdict;
 ghost use mathlib.Core.Path.{_≡_};
 ghost use Rattle.book.specs.Stretch.{foundBlock};
@@ -10,7 +11,7 @@ ghost use Rattle.interpreter.specs.Run.{ran};
 ghost use Rattle.listing.specs.Fields.{recordFields, eventFields};
 ghost use Rattle.rows.specs.Rows.{tablesIn};
 ghost use Rattle.rows.specs.Write.{written};
-ghost use Rattle.xemdulba.specs.Calls.{checked, found, Call, called, fieldsTold, labelOf, WriteCall, wrote};
+ghost use Rattle.xemdulba.specs.Calls.{checked, found, Call, called, fieldsTold, labelOf, launchOf, WriteCall, wrote};
 
 // The verdict on a book: refusal 0 where it is accepted. On a refusal the counts are 0.
 #[repr(C)]
@@ -125,19 +126,44 @@ pub extern "C" fn xemdulba_block(book: &[u8], block: u32) -> Stretch
     }
 }
 
-// Runs the events of a list on a book. On a refusal nothing is written.
+// A number as a label: what is larger than a byte counts as 255, which no field and no bound allows.
+fn label_of(n: u32) -> Label
+    ensures { λ r. ⌜ r ≡ labelOf n ⌝ }
+{
+    if n < 256 {
+        return Label(n as u8);
+    }
+    Label(255)
+}
+
+// XEMDULBA_DEFAULT_LAUNCH of include/xemdulba.h: no launch label.
+const DEFAULT_LAUNCH: u32 = 4294967295;
+
+// A number as what a run is given for job 0.
+fn launch_of(n: u32) -> Launch
+    ensures { λ r. ⌜ r ≡ launchOf n ⌝ }
+{
+    if n == DEFAULT_LAUNCH {
+        return Launch::Default;
+    }
+    Launch::Given(label_of(n))
+}
+
+// Runs the events of a list on a book, job 0 at a launch label. On a refusal nothing is written.
 #[no_mangle]
 pub extern "C" fn xemdulba_run(
     book: &[u8],
+    launch: u32,
     list: &[u8],
     cells: &mut [u8],
     jobs: &mut [u8],
     answers: &mut [u8],
 ) -> Ran
     ensures { λ r. ⌜ _≡_ {A = Call} (record { result = r; cells = now (cells .exit); jobs = now (jobs .exit); answered = now (answers .exit) })
-        (called (ran (now (book .entry)) (now (list .entry)) (now (cells .entry)) (now (jobs .entry)) (now (answers .entry)))) ⌝ }
+        (called (ran (now (book .entry)) (launchOf launch) (now (list .entry)) (now (cells .entry)) (now (jobs .entry)) (now (answers .entry)))) ⌝ }
 {
-    let run = running::run(book, list, cells, jobs, answers);
+    let given = launch_of(launch);
+    let run = running::run(book, given, list, cells, jobs, answers);
     let refusal = run.refusal;
     match refusal {
         Refusal::Refused { number, place } => {
@@ -169,16 +195,6 @@ pub struct Written {
     pub refusal: u32,
     pub place: u32,
     pub length: u32,
-}
-
-// A number as a label: what is larger than a byte counts as 255, which no field allows.
-fn label_of(n: u32) -> Label
-    ensures { λ r. ⌜ r ≡ labelOf n ⌝ }
-{
-    if n < 256 {
-        return Label(n as u8);
-    }
-    Label(255)
 }
 
 // Writes the book of the tables into a buffer. On a refusal nothing is written.

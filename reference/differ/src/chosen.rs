@@ -1,6 +1,7 @@
 //! The reference's own test books, runs and tables, all of them.
 
 use crate::compare::{self, different_run, hex, Checker, Difference, Tally, ASKED_BLOCKS};
+use reference::cases::runs::Run;
 use reference::cases::{check_books, generate, runs, writes};
 use reference::model::book::{self, record};
 use reference::model::machine::{event, Runner};
@@ -26,18 +27,34 @@ pub fn books(one: Checker, other: Checker) -> Result<Tally, Difference> {
     Ok(tally)
 }
 
-/// Compares every test run: what it answers, all the lent memory, and the event at each offset.
+/// Compares every test run: what it answers, and all the lent memory.
 pub fn runs(one: Runner, other: Runner) -> Result<Tally, Difference> {
+    some_runs(|_| true, one, other)
+}
+
+/// Compares every test run whose launch label is a byte, or that has none.
+pub fn runs_of_bytes(one: Runner, other: Runner) -> Result<Tally, Difference> {
+    let byte = |run: &Run| run.launch.map_or(true, |label| label <= 255);
+    some_runs(byte, one, other)
+}
+
+fn some_runs(wanted: fn(&Run) -> bool, one: Runner, other: Runner) -> Result<Tally, Difference> {
     let mut tally = Tally::default();
-    for (number, run) in runs::all().into_iter().enumerate() {
-        let (one, other) = (runs::outcome(one, &run), runs::outcome(other, &run));
+    let all = runs::all();
+    let numbered = all.iter().enumerate();
+    for (number, run) in numbered.filter(|(_, run)| wanted(run)) {
+        let (one, other) = (runs::outcome(one, run), runs::outcome(other, run));
         if one != other {
-            return Err(different_run(number, &run, &one, &other));
+            return Err(different_run(number, run, &one, &other));
         }
-        events(&run.events)?;
         tally.count_run(&one);
     }
     Ok(tally)
+}
+
+/// Compares the event at each offset of the list of every test run.
+pub fn lists() -> Result<(), Difference> {
+    runs::all().iter().try_for_each(|run| events(&run.events))
 }
 
 /// Compares all test tables, and those of every test book.

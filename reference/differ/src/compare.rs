@@ -13,7 +13,7 @@ use std::fmt;
 /// many events were answered by each of 0 to 3.
 #[derive(Default)]
 pub struct Tally {
-    refusals: [usize; 14],
+    refusals: [usize; 15],
     answers: [usize; 4],
 }
 
@@ -156,9 +156,13 @@ fn different_write(number: usize, write: &Write, one: &Written, other: &Written)
 
 /// A run that two answer otherwise, in words.
 pub fn different_run(number: usize, run: &Run, one: &Side, other: &Side) -> Difference {
+    let launch = run
+        .launch
+        .map_or("none".to_string(), |label| label.to_string());
     Difference(format!(
-        "number {number}\nbook {}\nevents {}\nlengths {:?}\none {}\nother {}",
+        "number {number}\nbook {}\nlaunch {}\nevents {}\nlengths {:?}\none {}\nother {}",
         hex(&run.book),
+        launch,
         hex(&run.events),
         run.lengths,
         side(one),

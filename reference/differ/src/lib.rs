@@ -5,10 +5,12 @@ mod told;
 
 pub use told::{event, record};
 
+use exported::DEFAULT_LAUNCH;
 use reference::model::book::{self, Refusal};
 use reference::model::machine::{Lent, Outcome, Ran};
 use reference::model::writer::{Packed, Tables};
 use reference::Verdict;
+use xemdulba::{Label, Settings};
 
 pub fn check(bytes: &[u8]) -> Verdict {
     match xemdulba::check(bytes).map_err(refused) {
@@ -29,13 +31,40 @@ pub fn stretch(bytes: &[u8], block: usize) -> Result<(usize, usize), Refusal> {
     Ok((range.start, range.len()))
 }
 
-/// A `machine::Runner`. It allocates nothing.
-pub fn run(book: &[u8], events: &[u8], [cells, jobs, answers]: &mut Lent) -> Outcome {
-    let tables = xemdulba::run_into(book, events, cells, jobs, answers).map_err(refused)?;
+/// A `machine::Runner`. It allocates nothing. The launch label has to be a byte, or none.
+pub fn run(
+    book: &[u8],
+    launch: Option<u32>,
+    events: &[u8],
+    [cells, jobs, answers]: &mut Lent,
+) -> Outcome {
+    let settings = launch.map_or(Settings::default(), |label| {
+        Settings::default().launch(Label(u8::try_from(label).expect("the label is a byte")))
+    });
+    let tables = xemdulba::run_into(book, events, settings, cells, jobs, answers);
+    let tables = tables.map_err(refused)?;
     Ok(Ran {
         cells: tables.cells.len(),
         jobs: tables.jobs.len(),
     })
+}
+
+/// As `run`, by the exported call itself, with any launch label that it can be given. What its
+/// answer does not have has to be 0.
+pub fn run_exported(book: &[u8], launch: Option<u32>, events: &[u8], lent: &mut Lent) -> Outcome {
+    assert_ne!(launch, Some(DEFAULT_LAUNCH), "it stands for none");
+    let ran = exported::run(book, launch.unwrap_or(DEFAULT_LAUNCH), events, lent);
+    match (ran.refusal, ran.place, ran.cells, ran.jobs) {
+        (0, 0, cells, jobs) => Ok(Ran {
+            cells: cells as usize,
+            jobs: jobs as usize,
+        }),
+        (number, place, 0, 0) if number > 0 => Err(Refusal {
+            number: u8::try_from(number).expect("a refusal is at most 14"),
+            place: place as usize,
+        }),
+        _ => panic!("no run has this answer: {ran:?}"),
+    }
 }
 
 /// A `writer::Writer`. It allocates nothing.
@@ -56,7 +85,7 @@ pub fn write_exported(tables: &Tables, out: &mut [u8]) -> Result<usize, Refusal>
     match (written.refusal, written.place, written.length) {
         (0, 0, length) => Ok(length as usize),
         (number, place, 0) if number > 0 => Err(Refusal {
-            number: u8::try_from(number).expect("a refusal is at most 13"),
+            number: u8::try_from(number).expect("a refusal is at most 14"),
             place: place as usize,
         }),
         _ => panic!("no writing has this answer: {written:?}"),
@@ -83,7 +112,7 @@ pub fn written_again(book: &[u8]) -> Result<Vec<u8>, Refusal> {
 
 fn refused(refusal: xemdulba::Refusal) -> book::Refusal {
     Refusal {
-        number: u8::try_from(refusal.number).expect("a refusal is at most 13"),
+        number: u8::try_from(refusal.number).expect("a refusal is at most 14"),
         place: refusal.place,
     }
 }

@@ -22,7 +22,7 @@ fn main() -> ExitCode {
         return ExitCode::from(2);
     };
     let same_runs = report(&format!("{count} runs"), || {
-        compare::runs(seed, count, verified::run, machine::run)
+        compare::runs(seed, count, verified::run_exported, machine::run)
     });
     let same_books = same_runs
         && report(&format!("{count} books"), || {

@@ -37,13 +37,13 @@ fn lines(outcome: Result<compare::Tally, Difference>) -> Vec<String> {
 
 #[test]
 fn a_different_run_is_written_out() {
-    let lines = lines(compare::runs(1, 50, verified::run, forgetful));
+    let lines = lines(compare::runs(1, 50, verified::run_exported, forgetful));
     let names = lines
         .iter()
         .filter_map(|line| line.split(' ').find(|word| !word.is_empty()));
     let expected = [
-        "number", "book", "events", "lengths", "one", "cells", "jobs", "answers", "other", "cells",
-        "jobs", "answers",
+        "number", "book", "launch", "events", "lengths", "one", "cells", "jobs", "answers",
+        "other", "cells", "jobs", "answers",
     ];
     assert_eq!(names.collect::<Vec<_>>(), expected);
     assert!(lines[1].starts_with("book 01"));
@@ -70,7 +70,8 @@ fn different_tables_are_written_out() {
 
 #[test]
 fn a_few_do_not_differ() {
-    assert!(compare::runs(7, 2_000, verified::run, machine::run).is_ok());
+    let runs = compare::runs(7, 2_000, verified::run_exported, machine::run);
+    assert!(runs.is_ok_and(|tally| tally.to_string().contains(" by 14")));
     let books = compare::books(7, 2_000, verified_checks, reference_checks);
     assert!(books.is_ok_and(|tally| tally.to_string().contains(" not refused, ")));
     let tables = compare::tables(7, 5_000, verified::write_exported, writer::write);
@@ -84,11 +85,17 @@ fn the_test_books_do_not_differ() {
     assert_eq!(tally.count(), 4_894 + 13_391);
 }
 
+/// By both ways to run a book: by the exported call all of them, and through the bindings those
+/// whose launch label is a byte or none.
 #[test]
 fn the_test_runs_do_not_differ() {
-    let tally = chosen::runs(verified::run, machine::run).map_err(|found| found.0);
+    let tally = chosen::runs(verified::run_exported, machine::run).map_err(|found| found.0);
     let tally = tally.expect("verified (one) and reference (other) differ");
-    assert_eq!(tally.count(), 9_159);
+    assert_eq!(tally.count(), 9_159 + 2_942);
+    let tally = chosen::runs_of_bytes(verified::run, machine::run).map_err(|found| found.0);
+    let tally = tally.expect("verified (one) and reference (other) differ");
+    assert_eq!(tally.count(), 9_159 + 2_942 - 288);
+    assert!(chosen::lists().is_ok());
 }
 
 /// By both ways to call the writer.
@@ -113,6 +120,9 @@ fn the_test_books_are_written_again() {
 #[test]
 fn a_different_test_book_and_run_are_written_out() {
     assert_eq!(lines(chosen::books(verified_checks, stern)).len(), 4);
-    assert_eq!(lines(chosen::runs(verified::run, forgetful)).len(), 12);
+    assert_eq!(
+        lines(chosen::runs(verified::run_exported, forgetful)).len(),
+        13
+    );
     assert_eq!(lines(chosen::tables(verified::write, careless)).len(), 11);
 }

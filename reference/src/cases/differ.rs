@@ -10,7 +10,7 @@ use crate::cases::generate::dice::Dice;
 use crate::cases::generate::Bytes;
 use crate::cases::runs::chance::{any_book, events};
 use crate::cases::runs::lively::Most;
-use crate::cases::runs::{outcome, Run, LONGEST};
+use crate::cases::runs::{at_bound, outcome, Run, LONGEST};
 use crate::model::machine::{self, Lent, Outcome, Runner};
 
 /// A run on which the two differ, its number from 0, and what each gives.
@@ -54,9 +54,9 @@ pub fn differ(
 }
 
 /// A run that keeps its answers for itself: a wrong one, for tests that a difference is found.
-pub fn forgetful(book: &[u8], events: &[u8], lent: &mut Lent) -> Outcome {
+pub fn forgetful(book: &[u8], launch: Option<u32>, events: &[u8], lent: &mut Lent) -> Outcome {
     let answers = lent[2].clone();
-    let outcome = machine::run(book, events, lent);
+    let outcome = machine::run(book, launch, events, lent);
     lent[2] = answers;
     outcome
 }
@@ -71,20 +71,33 @@ const LIVELY: Most = Most {
 /// Mostly a run that is not refused.
 fn any_run(dice: &mut Dice, number: usize) -> Run {
     let mut book = any_book(dice, number, LIVELY);
+    let launch = any_launch(dice, at_bound(&book).unwrap_or_default());
     let count = match dice.below(20) {
         0 => dice.below(400),
         _ => dice.below(60),
     };
-    let mut events = events(dice, &book, count);
+    let mut events = events(dice, &book, launch, count);
     match dice.below(40) {
         0 => change(dice, &mut events),
         1 => change(dice, &mut book),
         _ => {}
     }
-    let run = Run::new(book, events);
+    let run = Run::new(book, events).with_launch(launch);
     match dice.below(40) {
         0 => run.with(any_lengths(dice, run.lengths)),
         _ => run.with_spare(dice.below(3)),
+    }
+}
+
+/// None in a third of the runs; else mostly the bound or a label up to it, seldom the next above
+/// it, or a number that is no label, though its low byte may be one.
+fn any_launch(dice: &mut Dice, bound: u32) -> Option<u32> {
+    match dice.below(30) {
+        0..=9 => None,
+        10..=19 => Some(bound),
+        20..=27 => Some(dice.below(bound as usize + 1) as u32),
+        28 => Some(bound + 1),
+        _ => Some(dice.pick(&[16, 255, 256, 0x0100_0000 + bound, u32::MAX - 1])),
     }
 }
 
@@ -115,7 +128,8 @@ fn any_lengths(dice: &mut Dice, mut lengths: [usize; 3]) -> [usize; 3] {
 mod tests {
     use super::*;
     use crate::cases::runs::sums::{play, TOP};
-    use crate::model::machine::fast;
+    use crate::model::book::{read, Book};
+    use crate::model::machine::{check_launch, fast};
 
     #[test]
     fn the_two_machines_do_not_differ() {
@@ -142,5 +156,31 @@ mod tests {
         }
         println!("{met:?} of 5,000 runs");
         assert!(met.iter().all(|&count| count >= 20), "{met:?}");
+    }
+
+    /// In how many of 5,000 runs it holds of the launch and the book, if that can be read.
+    fn met(holds: impl Fn(Option<u32>, &Book) -> bool) -> usize {
+        let so = |run: &Run| read(&run.book).is_ok_and(|book| holds(run.launch, &book));
+        runs(1).take(5_000).filter(so).count()
+    }
+
+    #[test]
+    fn every_kind_of_launch_is_met() {
+        let none = met(|launch, _| launch.is_none());
+        let below = met(|launch, book| launch.is_some_and(|label| label < book.bound().into()));
+        let bound = met(|launch, book| launch == Some(book.bound().into()));
+        let odd = met(|launch, _| launch.is_some_and(|label| label > 16));
+        println!("none {none}, below the bound {below}, the bound {bound}, no label {odd}");
+        assert!(none >= 1_000 && below >= 700 && bound >= 1_500 && odd >= 50);
+    }
+
+    #[test]
+    fn launches_about_c_are_met_and_those_that_are_refused() {
+        let low = met(|launch, book| check_launch(book, launch).is_ok_and(|label| label <= book.c));
+        let high = met(|launch, book| check_launch(book, launch).is_ok_and(|label| label > book.c));
+        let refused = |run: &Run| matches!(outcome(machine::run, run).0, Err(r) if r.number == 14);
+        let refused = runs(1).take(5_000).filter(refused).count();
+        println!("at or below C {low}, above {high}, refused by 14 {refused}");
+        assert!(low >= 1_000 && high >= 1_000 && refused >= 150);
     }
 }

@@ -122,6 +122,11 @@ pub fn read(bytes: &[u8]) -> Result<Book, Refusal> {
     Ok(book)
 }
 
+/// The bound of block 0; none if the book cannot be read.
+pub fn bound(bytes: &[u8]) -> Option<u8> {
+    read(bytes).ok().map(|book| book.bound())
+}
+
 /// "Asked for a block, a call hands back that block's stretch of the lent book, steps only":
 /// its offset and its length.
 pub fn stretch(bytes: &[u8], number: usize) -> Result<(usize, usize), Refusal> {

@@ -1,11 +1,12 @@
-//! "The machine" of document 01, amended by 02, Two: a run of a readable book on a list of events,
-//! refusals 9 to 11, and the tables that a run leaves.
+//! "The machine" of document 01, amended by 02, Two and Three: a run of a readable book on a list
+//! of events, refusals 9 to 11 and 14, and the tables that a run leaves.
 
 mod acts;
 mod cause;
 pub mod event;
 pub mod fast;
 mod history;
+mod launch;
 mod outsider;
 mod state;
 mod steps;
@@ -15,6 +16,7 @@ mod tests;
 
 pub use cause::{Cause, Why};
 pub use history::History;
+pub use launch::check_launch;
 pub use state::{Actor, Cell, Datum, Job, Machine, Value};
 pub use tables::{CELLS_SIZE, CELL_SIZE, JOBS_SIZE, JOB_SIZE};
 
@@ -38,11 +40,12 @@ pub type Outcome = Result<Ran, Refusal>;
 pub type Lent = [Vec<u8>; 3];
 
 /// How a book is run: `run`, or another implementation.
-pub type Runner = fn(&[u8], &[u8], &mut Lent) -> Outcome;
+pub type Runner = fn(&[u8], Option<u32>, &[u8], &mut Lent) -> Outcome;
 
-/// Runs a book on a list of events, both as bytes.
-pub fn run(book: &[u8], events: &[u8], lent: &mut Lent) -> Outcome {
-    run_by(book, events, lent, |machine, event| {
+/// Runs a book on a list of events, both as bytes. The launch label, if one is given, is any number
+/// of 32 bits.
+pub fn run(book: &[u8], launch: Option<u32>, events: &[u8], lent: &mut Lent) -> Outcome {
+    run_by(book, launch, events, lent, |machine, event| {
         machine.take(event).answer()
     })
 }
@@ -50,6 +53,7 @@ pub fn run(book: &[u8], events: &[u8], lent: &mut Lent) -> Outcome {
 /// The same with what takes an event and answers it. Only tests have another.
 pub(crate) fn run_by(
     book: &[u8],
+    launch: Option<u32>,
     events: &[u8],
     [cells, jobs, answers]: &mut Lent,
     mut take: impl FnMut(&mut Machine, Event) -> u8,
@@ -57,7 +61,7 @@ pub(crate) fn run_by(
     let (book, events) = admitted(book, events)?;
     check_tables(cells, jobs)?;
     check_answers(answers, events.len())?;
-    let mut machine = Machine::new(&book);
+    let mut machine = Machine::new(&book, check_launch(&book, launch)?);
     for (answer, event) in answers.iter_mut().zip(events) {
         *answer = take(&mut machine, event);
     }

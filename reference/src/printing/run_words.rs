@@ -48,9 +48,9 @@ mod tests {
     #[test]
     fn a_run_in_words() {
         let mut lent = [CELLS_SIZE, JOBS_SIZE, 2].map(|length| vec![0xA5; length]);
-        let refused = machine::run(&[], &[], &mut lent);
+        let refused = machine::run(&[], None, &[], &mut lent);
         assert_eq!(text(refused, &lent), "refused 3 at 0\n");
-        let ran = machine::run(&[1, 3, 48, 2], &[80, 0, 80, 1], &mut lent);
+        let ran = machine::run(&[1, 3, 48, 2], Some(2), &[80, 0, 80, 1], &mut lent);
         let words = text(ran, &lent);
         let lines: Vec<&str> = words.lines().collect();
         assert_eq!(lines.len(), 11);

@@ -6,7 +6,7 @@ use mathlib.Core.List.{[], _∷_}
 use borrow.Author.Needs.{needs}
 use Rattle.tables.proofs.Saved.{jobs-start, jobs-narrow, jobs-room, jobs-on, jobs-end}
 use Rattle.interpreter.proofs.Opened.{open-listed}
-use Rattle.interpreter.proofs.Playing.{entry-fits, playing-start, playing-small, playing-sized, playing-begun, playing-end, playing-fit, playing-entry}
+use Rattle.interpreter.proofs.Playing.{first-launched, entry-fits, playing-start, playing-small, playing-sized, playing-begun, playing-end, playing-fit, playing-entry}
 use Rattle.interpreter.proofs.Playing.{playing-few, playing-off, playing-fits, playing-falls, playing-step-falls, playing-past, playing-over, playing-none}
 use Rattle.interpreter.proofs.Stepping.{step-stands, step-creates, step-gives, step-changes, step-lowers, step-launches, step-waits, step-room}
 use Rattle.interpreter.proofs.Stepping.{step-free, step-give, step-lower, step-store, step-create, step-launch}
@@ -24,10 +24,10 @@ play-spec =
     Inv-loop2
     μ-loop2
     -- the tables at the start
-    (λ c κs. open-listed _ _ _ _ _ _ _ _ _ _ (c .before .before .before .before .before .before .before .before .pre))
+    (λ c κs. open-listed _ _ _ _ _ _ _ _ _ (c .before .before .before .before .before .before .before .before .pre))
     (λ c κs. search needs) (λ c κs. search needs) (λ c κs. search needs) (λ c. search needs)
     (λ c.
-    playing-start _ _ _ _ _ _ _ _ _ _ (c .before .before .before .before .before .before .before .before .before .before .before .before .pre) _ _ _ _
+    playing-start _ _ _ _ _ _ _ _ _ (c .before .before .before .before .before .before .before .before .before .before .before .before .pre) _ _ _ _ _
     (search needs) (c .before .before .before .open-cells .ensures) (c .before .start-of .ensures)
     (c .fresh2 .ensures))
     -- an event: its answer's place and its kind
@@ -338,9 +338,11 @@ play-spec =
     (c .before .before .save-job .ensures) (search needs))
     (λ c. search needs) (λ c κs. search needs) (λ c. search needs) (λ c. search needs) (λ c. search needs)
     (λ c.
-    let w = c .before .before .before .before .before .before .before .before .before .before .before .loop .inv in
+    let head = c .before .before .before .before .before .before .before .before .before .before .before in
+    let w = head .loop .inv in
+    let begun = head .before in
     let saved = jobs-end _ _ _ _ (c .before .before .before .before .before .loop2 .inv) _ (c .before .before .before .before .loop2-test .left) (c .before .before .clear-from .ensures) in (
-      playing-end w _ _ (c .before .before .before .before .before .before .before .before .before .before .loop-test .left)
+      playing-end w _ (first-launched (begun .fresh2 .result) _ (begun .fresh2 .ensures .0)) _ _ (c .before .before .before .before .before .before .before .before .before .before .loop-test .left)
           (c .before .before .before .before .before .before .before .before .save-cells .ensures) saved,
       playing-fit w,
     )))

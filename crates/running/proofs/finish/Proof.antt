@@ -12,7 +12,6 @@ finish-spec =
     (λ c. search (lends, needs))
     (λ c. search needs) (λ c. search needs)
     (λ c. search (lends, needs))
-    (λ c. search needs)
     (λ c κs. search (lends, needs))
     (λ c. search needs) (λ c. search needs) (λ c. search needs)
     (λ c. search (lends, needs)))

@@ -12,5 +12,7 @@ refuse-spec =
     (λ c. search (refusals, needs))  -- Refusal::Refused { number, place } = read
     (λ c. search needs) (λ c. search needs)
     (λ c. search (refusals, needs))  -- Refusal::Refused { number, place } = played
-    (λ c. search needs) (λ c κs. search needs)
+    (λ c. search needs) (λ c κs. search needs) (λ c. search needs)
+    (λ c. search (refusals, needs))  -- Refusal::Refused { number, place } = held
+    (λ c. search needs)
     (λ c. search (refusals, needs)))  -- none of these

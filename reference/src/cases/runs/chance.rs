@@ -2,13 +2,13 @@
 
 use super::events::{exec, new, relabel, start, step, write, Brought};
 use super::lively::{self, Most};
-use super::Run;
+use super::{at_bound, Run};
 use crate::cases::check_books::walk;
 use crate::cases::generate::dice::Dice;
 use crate::cases::generate::valid::{self, size};
 use crate::cases::generate::Bytes;
 use crate::model::book::{self, Shape};
-use crate::model::machine::{event, Machine};
+use crate::model::machine::{check_launch, event, Machine};
 
 const SMALL: Most = Most {
     cells: 4,
@@ -39,7 +39,7 @@ pub fn runs() -> Vec<Run> {
 /// A run of a book by chance on so many events.
 fn run(dice: &mut Dice, number: usize, most: Most, count: usize) -> Run {
     let book = any_book(dice, number, most);
-    let events = events(dice, &book, count);
+    let events = events(dice, &book, at_bound(&book), count);
     Run::new(book, events)
 }
 
@@ -53,12 +53,14 @@ pub fn any_book(dice: &mut Dice, number: usize, most: Most) -> Bytes {
     }
 }
 
-/// So many events for a readable book.
-pub fn events(dice: &mut Dice, book: &[u8], count: usize) -> Bytes {
+/// So many events for a readable book with this launch label; with one above the bound, those of a
+/// run at the bound.
+pub fn events(dice: &mut Dice, book: &[u8], launch: Option<u32>, count: usize) -> Bytes {
     let Ok(book) = book::read(book) else {
         unreachable!("the book is readable");
     };
-    let mut machine = Machine::new(&book);
+    let label = check_launch(&book, launch).unwrap_or_else(|_| book.bound());
+    let mut machine = Machine::new(&book, label);
     let mut list = Vec::new();
     for _ in 0..count {
         let next = draw(dice, &machine);

@@ -34,6 +34,11 @@ fn sixteen_cells() -> Scene {
 
 /// A job at each label starts sixteen others: one for each cell, or for each label asked for.
 fn jobs() -> Vec<Run> {
+    (0..16).flat_map(sixteen_jobs_each).collect()
+}
+
+/// A run for each kind of step that compares labels.
+pub fn sixteen_jobs_each(bound: u8) -> Vec<Run> {
     let lasts: [fn(u8) -> Bytes; 5] = [
         |_| store(0, 1),
         |_| relabel(0, 0),
@@ -41,13 +46,7 @@ fn jobs() -> Vec<Run> {
         lower,
         |label| [name(0, 0), relabel(0, label)].concat(),
     ];
-    let mut runs = Vec::new();
-    for bound in 0..16 {
-        for last in lasts {
-            runs.push(sixteen_jobs(bound, last));
-        }
-    }
-    runs
+    lasts.map(|last| sixteen_jobs(bound, last)).to_vec()
 }
 
 fn sixteen_jobs(bound: u8, last: fn(u8) -> Bytes) -> Run {

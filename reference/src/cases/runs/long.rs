@@ -3,7 +3,7 @@
 use super::chance::{any_book, events};
 use super::events::{exec, start, step, steps};
 use super::lively::Most;
-use super::Run;
+use super::{at_bound, Run};
 use crate::cases::generate::dice::Dice;
 use crate::cases::generate::{samples, Bytes};
 use crate::cases::large::mixed_book;
@@ -47,7 +47,7 @@ fn by_chance(number: usize, length: usize) -> Run {
     };
     let book = any_book(&mut dice, number, most);
     // An event has 3.2 bytes or fewer on the average.
-    let mut list = events(&mut dice, &book, length / 4);
+    let mut list = events(&mut dice, &book, at_bound(&book), length / 4);
     assert!(list.len() + 3 <= length);
     if list.len() % 2 == 1 {
         list.extend(exec(0, 0));

@@ -1,4 +1,5 @@
-//! Runs refused 1 to 6, 9, 10 and 11, each at its boundary, and which refusal comes first.
+//! Runs refused 1 to 6, 9, 10 and 11, each at its boundary, and which refusal comes first. For 14
+//! see `launch`.
 
 use super::events::{exec, new, plain, relabel, start, step, write};
 use super::Run;
@@ -40,7 +41,7 @@ const EACH: usize = 24;
 const SMALL: usize = 150;
 
 /// The books for reading with refusals 2 to 6, with a sound list and sound buffers or not.
-fn books() -> Vec<Run> {
+pub fn books() -> Vec<Run> {
     let all = generate::books();
     let mut runs = Vec::new();
     for number in 2..=6 {
@@ -62,7 +63,7 @@ fn refused(book: &[u8], asked: u8) -> bool {
 }
 
 /// A book one byte too long, and one just not.
-fn overlong_book() -> Vec<Run> {
+pub fn overlong_book() -> Vec<Run> {
     let filled = |length: usize| [&a()[..], &[0x48, 3].repeat(length)].concat();
     let most = filled((32_768 - a().len()) / 2);
     let beyond = [&most[..], &[0x48]].concat();
@@ -133,7 +134,7 @@ fn answers() -> Vec<Run> {
 }
 
 /// Faults of two or three stages at once.
-fn two_faults() -> Vec<Run> {
+pub fn two_faults() -> Vec<Run> {
     let unreadable = vec![1, 3];
     let mut runs = Vec::new();
     for book in [a(), unreadable] {

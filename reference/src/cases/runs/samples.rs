@@ -14,7 +14,7 @@ pub fn runs() -> Vec<Run> {
     runs
 }
 
-fn lists() -> Vec<Bytes> {
+pub fn lists() -> Vec<Bytes> {
     let mut lists: Vec<Bytes> = (0..7).map(|count| steps(0, count)).collect();
     for q in [3, 4] {
         lists.push(write(q, 0, plain(7)));

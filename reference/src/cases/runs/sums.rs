@@ -27,10 +27,16 @@ pub fn play_before(run: &Run) -> Played {
 fn play_by(run: &Run, take: impl Fn(&mut Machine, Event) -> u8) -> Played {
     let mut lent = run.lengths.map(|length| vec![BEFORE; length]);
     let mut sums = Vec::new();
-    let outcome = run_by(&run.book, &run.events, &mut lent, |machine, event| {
-        sums.extend(exact_sum(machine, event));
-        take(machine, event)
-    });
+    let outcome = run_by(
+        &run.book,
+        run.launch,
+        &run.events,
+        &mut lent,
+        |machine, event| {
+            sums.extend(exact_sum(machine, event));
+            take(machine, event)
+        },
+    );
     ((outcome, lent), sums)
 }
 

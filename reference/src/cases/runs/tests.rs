@@ -3,11 +3,13 @@
 mod before;
 mod claim;
 mod coverage;
+mod launch;
+mod recorded;
 mod top;
 
 use super::*;
 use crate::model::machine::event::{EXEC, NEW, RELABEL, START, STEP, WRITE};
-use crate::model::machine::{self, admitted, fast, Cause, Machine, Why};
+use crate::model::machine::{self, admitted, check_launch, fast, Cause, Machine, Why};
 use crate::model::typing::{check, Verdict};
 use std::collections::BTreeMap;
 
@@ -18,7 +20,7 @@ fn trace(run: &Run, mut see: impl FnMut(Cause, &Machine)) {
         return;
     }
     let (book, events) = admitted(&run.book, &run.events).unwrap();
-    let mut machine = Machine::new(&book);
+    let mut machine = Machine::new(&book, check_launch(&book, run.launch).unwrap());
     for event in events {
         let cause = machine.take(event);
         see(cause, &machine);
@@ -104,7 +106,7 @@ fn every_refusal_occurs() {
         *tally.entry(number).or_insert(0) += 1;
     }
     let numbers: Vec<u8> = tally.keys().copied().collect();
-    assert_eq!(numbers, [0, 1, 2, 3, 4, 5, 6, 9, 10, 11]);
+    assert_eq!(numbers, [0, 1, 2, 3, 4, 5, 6, 9, 10, 11, 14]);
     for (number, count) in tally {
         assert!(number == 1 || count >= 20, "refusal {number}");
     }
@@ -114,7 +116,7 @@ fn every_refusal_occurs() {
 fn the_file_is_rich_enough_and_not_too_large() {
     let runs = all();
     assert!(runs.len() >= 5_000);
-    assert!(file::join(&runs).len() < 2_000_000);
+    assert!(file::join(&runs).len() < 2_500_000);
     for run in &runs {
         assert!(run.book.len() <= 32_769 && run.events.len() <= 65_537);
         let mut lengths = run.lengths.iter().zip(LONGEST);

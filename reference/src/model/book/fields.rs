@@ -88,6 +88,11 @@ impl Book {
         )
     }
 
+    /// The bound of block 0.
+    pub fn bound(&self) -> u8 {
+        self.blocks[0].bound
+    }
+
     /// The trust that a cell shape states, not counted as typing does.
     pub fn trust_of(&self, shape: u8) -> u8 {
         match self.shapes[usize::from(shape)] {

@@ -4,7 +4,8 @@ mod acts;
 mod steps;
 
 use super::event::{self, Event};
-use super::{check_answers, check_tables, Lent, Outcome, Ran, CELL_SIZE, JOB_SIZE, TABLE};
+use super::{check_answers, check_launch, check_tables, Lent, Outcome, Ran};
+use super::{CELL_SIZE, JOB_SIZE, TABLE};
 use crate::model::book::{self, Book, DeclaredCell};
 
 /// Kind, number and source; a source of two histories is the lower of theirs.
@@ -49,13 +50,18 @@ struct Fast<'b> {
 }
 
 /// As `machine::run`.
-pub fn run(book: &[u8], events: &[u8], [cells, jobs, answers]: &mut Lent) -> Outcome {
+pub fn run(
+    book: &[u8],
+    launch: Option<u32>,
+    events: &[u8],
+    [cells, jobs, answers]: &mut Lent,
+) -> Outcome {
     let book = book::read(book)?;
     let mut count = 0;
     event::walk(events, |_| count += 1)?;
     check_tables(cells, jobs)?;
     check_answers(answers, count)?;
-    let mut fast = Fast::new(&book);
+    let mut fast = Fast::new(&book, check_launch(&book, launch)?);
     let mut left = answers.iter_mut();
     event::walk(events, |event| {
         if let Some(answer) = left.next() {
@@ -83,12 +89,11 @@ fn declared(book: &Book, cell: &DeclaredCell) -> Cell {
 }
 
 impl<'b> Fast<'b> {
-    fn new(book: &'b Book) -> Fast<'b> {
-        let bound = book.blocks[0].bound;
+    fn new(book: &'b Book, launch: u8) -> Fast<'b> {
         let mut cells = Vec::with_capacity(TABLE);
         cells.extend(book.cells.iter().map(|cell| declared(book, cell)));
         let mut jobs = Vec::with_capacity(TABLE);
-        jobs.push(Job::new(0, bound, bound));
+        jobs.push(Job::new(0, launch, launch));
         Fast { book, cells, jobs }
     }
 

@@ -80,13 +80,13 @@ pub struct Machine<'b> {
 }
 
 impl<'b> Machine<'b> {
-    /// "Job 0 runs block 0 at its bound, history that bound."
-    pub fn new(book: &'b Book) -> Machine<'b> {
-        let bound = book.blocks[0].bound;
+    /// Job 0 runs block 0. 02, Three: "A run now takes a launch label for job 0, which is also its
+    /// history."
+    pub fn new(book: &'b Book, launch: u8) -> Machine<'b> {
         Machine {
             book,
             cells: book.cells.iter().map(|cell| fresh(book, cell)).collect(),
-            jobs: vec![Job::new(0, bound, History::of(bound))],
+            jobs: vec![Job::new(0, launch, History::of(launch))],
         }
     }
 

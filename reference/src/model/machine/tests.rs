@@ -1,6 +1,7 @@
 //! Expectations derived by hand from document 01, and from 02 where it amends the machine.
 
 mod events;
+mod launch;
 mod refusals;
 mod steps;
 
@@ -19,10 +20,13 @@ struct After {
     answers: Vec<u8>,
 }
 
+/// A launch label, or none.
+type Launch = Option<u32>;
+
 /// A run with buffers of these lengths: cells, jobs, answers.
-fn run_with(run: Runner, book: &[u8], events: &[u8], lengths: [usize; 3]) -> After {
+fn run_with(run: Runner, book: &[u8], launch: Launch, events: &[u8], lengths: [usize; 3]) -> After {
     let mut lent = lengths.map(|length| vec![BEFORE; length]);
-    let outcome = run(book, events, &mut lent);
+    let outcome = run(book, launch, events, &mut lent);
     let [cells, jobs, answers] = lent;
     After {
         outcome,
@@ -33,13 +37,19 @@ fn run_with(run: Runner, book: &[u8], events: &[u8], lengths: [usize; 3]) -> Aft
 }
 
 /// The same of both machines.
-fn run_both(book: &[u8], events: &[u8], lengths: [usize; 3]) -> After {
-    let after = run_with(run, book, events, lengths);
-    assert_eq!(after, run_with(fast::run, book, events, lengths));
+fn launch_both(book: &[u8], launch: Launch, events: &[u8], lengths: [usize; 3]) -> After {
+    let after = run_with(run, book, launch, events, lengths);
+    assert_eq!(after, run_with(fast::run, book, launch, events, lengths));
     after
 }
 
-/// Runs with an answer buffer of the right length.
+/// The same with block 0's bound as the launch label, as a run was before 02, Three.
+fn run_both(book: &[u8], events: &[u8], lengths: [usize; 3]) -> After {
+    let bound = book::bound(book).map(u32::from);
+    launch_both(book, bound, events, lengths)
+}
+
+/// Runs at the bound with an answer buffer of the right length.
 fn runs(book: &str, events: &str) -> After {
     let (book, events) = (hex(book), hex(events));
     let count = event::split(&events).unwrap().len();

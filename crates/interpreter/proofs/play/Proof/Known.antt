@@ -7,14 +7,14 @@ use mathlib.Core.Path.{refl}
 use Prim.Native.Nat.{_-_}
 use lib.ListN.{length}
 use Rattle.tables.proofs.Saved.{JobsIn}
-use Rattle.interpreter.proofs.Playing.{Playing}
+use Rattle.interpreter.proofs.Playing.{firstLabel, Playing}
 use Rattle.interpreter.proofs.Stepping.{SomeStep}
 use Rattle.interpreter.proofs.Acting.{SomeAct}
 use Rattle.interpreter.proofs.play.Tie as tie
 
 abbrev pub Inv-loop : tie.InvT-loop
 Inv-loop book c shapes offsets starts list cells jobs answers₀ held₀ begun₀ n₀ m₀ o₀ at₀ answers held begun n m o at =
-    Playing book c shapes offsets starts list cells jobs answers₀ answers held n begun m o at
+    Playing book c (firstLabel begun₀) shapes offsets starts list cells jobs answers₀ answers held n begun m o at
 
 abbrev pub μ-loop : tie.MeasureT-loop
 μ-loop book c shapes offsets starts list cells jobs answers₀ held₀ begun₀ n₀ m₀ o₀ at₀ answers held begun n m o at =
@@ -37,6 +37,7 @@ stepping p =
     record {
       b = _;
       c = _;
+      launch = _;
       shapes = _;
       offsets = _;
       starts = _;
@@ -82,6 +83,7 @@ acting p =
     record {
       b = _;
       c = _;
+      launch = _;
       shapes = _;
       offsets = _;
       starts = _;

@@ -19,12 +19,16 @@ fn holds(machine: &Machine) -> bool {
 
 /// Whether it holds in a run from its beginning on.
 fn holds_in(run: &Run) -> bool {
-    let mut sound = match admitted(&run.book, &[]) {
-        Ok((book, _)) => holds(&Machine::new(&book)),
-        Err(_) => true,
-    };
+    let mut sound = fresh_holds(run).unwrap_or(true);
     trace(run, |_, machine| sound &= holds(machine));
     sound
+}
+
+/// Whether it holds at the beginning; none if the book or the launch label is refused.
+fn fresh_holds(run: &Run) -> Option<bool> {
+    let (book, _) = admitted(&run.book, &[]).ok()?;
+    let label = check_launch(&book, run.launch).ok()?;
+    Some(holds(&Machine::new(&book, label)))
 }
 
 fn accepted(book: &[u8]) -> bool {
@@ -57,8 +61,12 @@ fn the_claim_holds_in_runs_by_chance() {
         // Of these numbers, 0 asks for an accepted book.
         let book = any_book(&mut dice, 0, most);
         assert!(accepted(&book));
-        let events = events(&mut dice, &book, 80);
-        let run = Run::new(book, events);
+        // "The integrity guarantee has to cover every launch label up to the bound."
+        let bound = at_bound(&book).unwrap();
+        let below = dice.below(bound as usize + 1) as u32;
+        let launch = dice.pick(&[None, Some(bound), Some(below), Some(below)]);
+        let events = events(&mut dice, &book, launch, 80);
+        let run = Run::new(book, events).with_launch(launch);
         assert!(holds_in(&run), "{run:?}");
     }
 }

@@ -3,7 +3,7 @@
 use super::super::{all, Run};
 use crate::model::book::Step;
 use crate::model::machine::event::Event;
-use crate::model::machine::{admitted, Datum, Job, Machine, Value, TABLE};
+use crate::model::machine::{admitted, check_launch, Datum, Job, Machine, Value, TABLE};
 use std::collections::{BTreeMap, BTreeSet};
 
 /// What a run reaches, by name.
@@ -88,7 +88,10 @@ fn reached(run: &Run) -> Reached {
     let Ok((book, events)) = admitted(&run.book, &run.events) else {
         return reached;
     };
-    let mut machine = Machine::new(&book);
+    let Ok(label) = check_launch(&book, run.launch) else {
+        return reached;
+    };
+    let mut machine = Machine::new(&book, label);
     let mut blocked = BTreeSet::new();
     for event in events {
         let mut noted = Reached::new();

@@ -1,13 +1,19 @@
-//! Refusals 1 to 6, 9, 10 and 11, and their order.
+//! Refusals 1 to 6, 9, 10, 11 and 14, and their order.
 
 use super::*;
 
 const RIGHT: [usize; 3] = [CELLS_SIZE, JOBS_SIZE, 9];
 
-/// Refused so by both machines, and all lent memory is untouched.
+/// Refused so by both machines, at the bound and with a launch label above every bound. All lent
+/// memory is untouched.
 fn assert_refused(book: &[u8], events: &[u8], lengths: [usize; 3], number: u8, place: usize) {
-    let ran = run_both(book, events, lengths);
-    assert_eq!(ran.outcome, Err(Refusal { number, place }));
+    let refusal = Refusal { number, place };
+    assert_untouched(run_both(book, events, lengths), refusal);
+    assert_untouched(launch_both(book, Some(16), events, lengths), refusal);
+}
+
+fn assert_untouched(ran: After, refusal: Refusal) {
+    assert_eq!(ran.outcome, Err(refusal));
     let lent = [ran.cells, ran.jobs, ran.answers].concat();
     assert!(lent.iter().all(|&byte| byte == BEFORE));
 }
@@ -100,4 +106,52 @@ fn refusal_11_asks_for_an_answer_byte_for_each_event() {
     assert_runs(&events, [CELLS_SIZE, JOBS_SIZE, 3]);
     assert_runs(&events, [CELLS_SIZE, JOBS_SIZE, 4]);
     assert_runs(&[], [CELLS_SIZE, JOBS_SIZE, 0]);
+}
+
+/// A of this bound, with this launch label.
+fn launched(bound: u8, launch: u32, lengths: [usize; 3]) -> After {
+    let book = A.replace("30 0C", &format!("30 {bound:02X}"));
+    launch_both(&hex(&book), Some(launch), &hex("50 00"), lengths)
+}
+
+const ABOVE: Refusal = Refusal {
+    number: 14,
+    place: 0,
+};
+
+#[test]
+fn refusal_14_the_launch_label_is_above_the_bound() {
+    for bound in 0..16 {
+        for label in 0..=u32::from(bound) {
+            assert!(launched(bound, label, RIGHT).outcome.is_ok());
+        }
+        // Numbers whose low byte is a label up to the bound are above it all the same.
+        let above = [16, 255, 256, 300, 65_536, 0x0100_0005, u32::MAX - 1];
+        for label in (u32::from(bound) + 1..16).chain(above) {
+            assert_untouched(launched(bound, label, RIGHT), ABOVE);
+        }
+    }
+}
+
+#[test]
+fn refusal_14_is_of_block_0_alone_and_of_a_label_that_is_given() {
+    // C is 3. Other blocks have higher bounds, and lower ones.
+    let book = hex("01 03 30 05 30 0F 30 00");
+    for (launch, outcome) in [(5, None), (6, Some(ABOVE)), (15, Some(ABOVE))] {
+        let ran = launch_both(&book, Some(launch), &[], RIGHT);
+        assert_eq!(ran.outcome.err(), outcome);
+    }
+    for bound in 0..16 {
+        let ran = launch_both(&[1, 3, 48, bound], None, &[], RIGHT);
+        assert!(ran.outcome.is_ok());
+    }
+}
+
+#[test]
+fn refusal_14_comes_after_9_10_and_11() {
+    assert_untouched(launched(12, 13, RIGHT), ABOVE);
+    assert_untouched(launched(12, 13, [CELLS_SIZE, JOBS_SIZE, 1]), ABOVE);
+    assert_refused(&hex(A), &hex("50 00"), [CELLS_SIZE, JOBS_SIZE, 0], 11, 0);
+    assert_refused(&hex(A), &hex("50 00"), [CELLS_SIZE, 0, 0], 10, 0);
+    assert_refused(&hex(A), &hex("50 00 56"), [0, 0, 0], 9, 2);
 }
