@@ -35,7 +35,7 @@ use Rattle.machine.specs.Events.{tableSize, firstBound, freshState, landed, tur
 use Rattle.integrity.specs.Weakened.{alikeBy, fitsBy, declaredBy, stepRuleBy, walkBy, every, acceptedBy, Needed}
 use Rattle.integrity.specs.Loosened as L
 use Rattle.integrity.specs.Loosened.{turnBy, outcomeBy, stateBy, NeededThere}
-use Rattle.integrity.specs.EachNeeded.{EachNeeded}
+use Rattle.integrity.specs.EachNeeded.{EachNeeded, LaunchNeeded}
 use Rattle.integrity.proofs.Books.{plain, code, cell, declare, block, name, codeOf, add, new, read, write, relabel, lowerTo, start, exec}
 use Rattle.integrity.proofs.Books.{book, spoil, steps, codeBelow, codeAsLarger, namedAsTrusted, readLow, relabelled, made, madeLowered, loweredLow, held}
 use Rattle.integrity.proofs.Tested.{cellHolds, jobHolds, sentencesHold, breaks}
@@ -301,4 +301,26 @@ each-needed =
                 needed-there (book (code 12 ∷ cell 0 0 ∷ declare 1 12 codeValue 0 ∷ block 12 ∷ []))
                 (ExecBy (label 3) 0 ∷ []) 2 1 1 0 refl refl;
           };
+    }
+
+-- C is 3, and block 0 has the bound 3, at which every step but new passes: it gives cell 0, of trust 4 and label 4, the label 0. A job at 3 is blocked
+-- there, and one at 4 is not.
+pub launch-needed : LaunchNeeded
+unfolding lower normal capped both either valueOf valueNamed viewOf onSome alikeIn alike knownOf fits knownValue declaredOk breaksUnless stuckUnless R.onKnownCell R.onKnownCode
+    isPlainly fresh known R.lowerRule addable holds lowRule highRule stepRule given onPlain onCell onCode execLabel writeAct relabelAct newAct startAct
+    execAct summable addStep readStep lowerStep turnOf landed turnLanded outcomeOf stateAfter alikeBy fitsBy declaredBy stepRuleBy walkBy every acceptedBy
+    L.writeActBy L.relabelActBy L.execActBy L.lowerStepBy turnBy outcomeBy stateBy cellHolds jobHolds sentencesHold those while sweep span limits group
+    numberAt cutBy offsetsIn offsetsBy groupOf stepsFrom shapeAt declaredAt stepAt blockAt parse cutFault inOrder misplaced orderFault counted tooMany
+    beyond countFault above outOfRange rangeFault cellNamed stepNamed dangling dangles nameFault orRefuse unreadable stepCount fault cellFault orThen
+    blockFault stepFault orRefused typed verdictOf
+launch-needed =
+    record {
+      bytes = book (plain ∷ cell 0 4 ∷ declare 1 4 plainValue 5 ∷ block 3 ∷ name 0 0 ∷ relabel 0 0 ∷ []);
+      events = steps 2 0 [];
+      shapes = 2;
+      cells = 1;
+      blocks = 1;
+      steps = 2;
+      accepted = refl;
+      broken = breaks _ _ refl;
     }

@@ -3,7 +3,19 @@
 --     ShapesNeeded, StepsNeeded     the typing rules: shapes and declared cells; steps
 --     MachineNeeded                 the machine
 --     EachNeeded                    all of them
+--     LaunchNeeded                  that the launch label is at most the bound
 -- Assumes nothing.
+use Prim.Native.Nat.{ℕ, _+_}
+use mathlib.Core.Path.{_≡_}
+use mathlib.Core.List.{List}
+use Rattle.labels.specs.Labels.{label}
+use Rattle.book.specs.Book.{parse}
+use Rattle.typing.specs.declared.Verdict.the-variants.{Accepted}
+use Rattle.typing.specs.Verdict.{verdict}
+use Rattle.machine.specs.declared.Event.{Event}
+use Rattle.machine.specs.Histories.{lists}
+use Rattle.machine.specs.Events.{tableSize, firstBound, freshState, stateAfter}
+use Rattle.integrity.specs.Integrity.{Sentences}
 use Rattle.integrity.specs.Weakened.{Needed}
 use Rattle.integrity.specs.Loosened.{NeededThere}
 
@@ -79,3 +91,17 @@ pub record EachNeeded : Type 0 where
   pub shapes : ShapesNeeded
   pub steps : StepsNeeded
   pub machine : MachineNeeded
+
+-- 02, Three: "every launch label up to the bound", and not the next. An accepted book, launched at one above its block 0's bound, and events after
+-- which a sentence is broken.
+pub record LaunchNeeded : Type 0 where
+  pub bytes : List ℕ
+  pub events : List Event
+  pub shapes : ℕ
+  pub cells : ℕ
+  pub blocks : ℕ
+  pub steps : ℕ
+  pub accepted : verdict bytes ≡ Accepted shapes cells blocks steps
+  pub broken :
+      Sentences (parse bytes)
+      (stateAfter lists tableSize (parse bytes) (freshState lists (parse bytes) (label (firstBound (parse bytes) .0 + 1))) events) → ⊥

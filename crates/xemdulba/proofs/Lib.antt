@@ -1,3 +1,4 @@
 pub mod Answers
 pub mod Calling
+pub mod Launching
 pub mod Wrote
