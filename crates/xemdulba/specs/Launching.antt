@@ -22,5 +22,5 @@ pub record LaunchNumbers : Type 0 where
   -- "Any other number above that bound is refused by 14."
   pub above : (book : List ℕ) → unreadable book ≡ Passed → (n : ℕ) → firstBound (parse book) .0 < n → (n ≡ 4294967295 → ⊥)
       → unlaunched (firstBound (parse book)) (launchOf n) ≡ Refused 14 0
-  -- "The bound is the byte before the stretch of block 0"
+  -- of a book that xemdulba_block does not refuse, "the bound is the byte before the stretch of block 0"
   pub bound : (book : List ℕ) → unreadable book ≡ Passed → byteAt book (foundBlock book 0 .start - 1) ≡ firstBound (parse book) .0
