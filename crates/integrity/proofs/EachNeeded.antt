@@ -22,7 +22,7 @@ use Rattle.book.specs.declared.Refusal.the-variants.{Passed}
 use Rattle.typing.specs.declared.Verdict.{Verdict}
 use Rattle.typing.specs.declared.Verdict.the-variants.{Accepted, Refused}
 use Rattle.typing.specs.Shapes.{viewOf, alikeIn, alike, knownOf, fits, knownValue, declaredOk}
-use Rattle.typing.specs.Rules.{breaksUnless, stuckUnless, isPlainly, fresh, known, addable, holds, lowRule, highRule, stepRule, fault}
+use Rattle.typing.specs.Rules.{breaksUnless, stuckUnless, isPlainly, fresh, known, plainOrLow, holds, lowRule, highRule, stepRule, fault}
 use Rattle.typing.specs.Rules as R
 use Rattle.typing.specs.Verdict.{cellFault, orThen, blockFault, stepFault, orRefused, typed, verdictOf, verdict}
 use Rattle.machine.specs.declared.Event.{Event}
@@ -86,7 +86,7 @@ needed-there bytes events shapes cells blocks steps accepted e =
 
 pub each-needed : EachNeeded
 unfolding lower normal capped both either valueOf valueNamed viewOf onSome alikeIn alike knownOf fits knownValue declaredOk breaksUnless stuckUnless R.onKnownCell R.onKnownCode
-    isPlainly fresh known R.lowerRule addable holds lowRule highRule stepRule given onPlain onCell onCode execLabel writeAct relabelAct newAct startAct
+    isPlainly fresh known R.lowerRule plainOrLow holds lowRule highRule stepRule given onPlain onCell onCode execLabel writeAct relabelAct newAct startAct
     execAct summable addStep readStep lowerStep turnOf landed turnLanded outcomeOf stateAfter alikeBy fitsBy declaredBy stepRuleBy walkBy every acceptedBy
     L.writeActBy L.relabelActBy L.execActBy L.lowerStepBy turnBy outcomeBy stateBy cellHolds jobHolds sentencesHold those while sweep span limits group
     numberAt cutBy offsetsIn offsetsBy groupOf stepsFrom shapeAt declaredAt stepAt blockAt parse cutFault inOrder misplaced orderFault counted tooMany
@@ -307,7 +307,7 @@ each-needed =
 -- there, and one at 4 is not.
 pub launch-needed : LaunchNeeded
 unfolding lower normal capped both either valueOf valueNamed viewOf onSome alikeIn alike knownOf fits knownValue declaredOk breaksUnless stuckUnless R.onKnownCell R.onKnownCode
-    isPlainly fresh known R.lowerRule addable holds lowRule highRule stepRule given onPlain onCell onCode execLabel writeAct relabelAct newAct startAct
+    isPlainly fresh known R.lowerRule plainOrLow holds lowRule highRule stepRule given onPlain onCell onCode execLabel writeAct relabelAct newAct startAct
     execAct summable addStep readStep lowerStep turnOf landed turnLanded outcomeOf stateAfter alikeBy fitsBy declaredBy stepRuleBy walkBy every acceptedBy
     L.writeActBy L.relabelActBy L.execActBy L.lowerStepBy turnBy outcomeBy stateBy cellHolds jobHolds sentencesHold those while sweep span limits group
     numberAt cutBy offsetsIn offsetsBy groupOf stepsFrom shapeAt declaredAt stepAt blockAt parse cutFault inOrder misplaced orderFault counted tooMany

@@ -29,7 +29,7 @@ use Rattle.typing.specs.declared.State.{State}
 use Rattle.typing.specs.declared.Verdict.the-variants.{Accepted, Refused}
 use Rattle.typing.specs.Shapes.{View, viewOf, isPlainShape, isCodeShape, isCellShape, boundOf, contentOf, countedTrust, isHighTrust, knownOf, knownValue}
 use Rattle.typing.specs.Rules.{Typed, passes, stuck, breaks, breaksUnless, stuckUnless, onKnownCell, onKnownCode, registerType, gives, givesLow, fresh, used, isLow}
-use Rattle.typing.specs.Rules.{known, lowersTo, addable, lowRule, highRule, stepRule}
+use Rattle.typing.specs.Rules.{known, lowersTo, plainOrLow, lowRule, highRule, stepRule}
 use Rattle.typing.specs.Verdict.{verdict}
 use Rattle.machine.specs.declared.Event.{Event}
 use Rattle.machine.specs.Histories.{lists}
@@ -147,7 +147,7 @@ module _ (weakened : String) where
     -- "add: operands of effect above C must be plain; least effect."
     abbrev pub addRuleBy : State → ℕ → ℕ → ℕ → Typed
     addRuleBy t r a b =
-        breaksUnless (both (addable c t a) (addable c t b))
+        breaksUnless (both (plainOrLow c t a) (plainOrLow c t b))
         (gives t r N.Plain
         (instead "add: the first's effect" (used t b) (instead "add: the second's effect" (used t a) (lower (used t a) (used t b)))))
 

@@ -11,7 +11,7 @@ use Rattle.book.specs.Refusals.{cutFault, inOrder, misplaced, orderFault, count
 use Rattle.book.specs.Refusals.{stepNamed, dangling, dangles, nameFault, orRefuse, unreadable}
 use Rattle.book.specs.Outline.{stepCount}
 use Rattle.typing.specs.Shapes.{viewOf, alikeIn, alike, knownOf, fits, knownValue, declaredOk}
-use Rattle.typing.specs.Rules.{breaksUnless, stuckUnless, onKnownCell, onKnownCode, isPlainly, fresh, known, lowerRule, addable, holds, lowRule, highRule, stepRule, fault}
+use Rattle.typing.specs.Rules.{breaksUnless, stuckUnless, onKnownCell, onKnownCode, isPlainly, fresh, known, lowerRule, plainOrLow, holds, lowRule, highRule, stepRule, fault}
 use Rattle.typing.specs.Verdict.{cellFault, orThen, blockFault, stepFault, orRefused, typed, verdictOf}
 use Rattle.typing.specs.Samples.{Samples}
 
@@ -19,7 +19,7 @@ pub samples : Samples
 unfolding lower normal capped both either those while sweep span limits group numberAt cutBy offsetsIn offsetsBy groupOf stepsFrom shapeAt valueOf declaredAt stepAt
     blockAt parse cutFault inOrder misplaced orderFault counted tooMany beyond countFault above outOfRange rangeFault valueNamed cellNamed stepNamed dangling dangles
     nameFault orRefuse unreadable stepCount viewOf onSome alikeIn alike knownOf fits knownValue declaredOk breaksUnless stuckUnless onKnownCell onKnownCode isPlainly
-    fresh known lowerRule addable holds lowRule highRule stepRule fault cellFault orThen blockFault stepFault orRefused typed verdictOf
+    fresh known lowerRule plainOrLow holds lowRule highRule stepRule fault cellFault orThen blockFault stepFault orRefused typed verdictOf
 samples =
     record {
       a1 = refl;

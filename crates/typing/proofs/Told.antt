@@ -1,5 +1,5 @@
 -- Laws of the rules, for the code: what a callee gave stands as a variable with its equation.
---     registers, addables, lowers, adds      one set for each
+--     registers, operands, lowers, adds      one set for each
 -- Assumes nothing.
 use mathlib.Core.Path.{_≡_, sym, ap, _∙_}
 use mathlib.Core.Bool.{Bool, true, false}
@@ -15,7 +15,7 @@ use Rattle.typing.specs.declared.Known.the-variants.{Unknown, Plain, Cod
 use Rattle.typing.specs.declared.Register.{Register}
 use Rattle.typing.specs.declared.State.{State}
 use Rattle.typing.specs.declared.Stepped.{Stepped}
-use Rattle.typing.specs.Rules.{stuck, breaks, breaksUnless, stuckUnless, isPlainly, lowRegister, registerType, gives, used, known, lowersTo, lowerRule, addable, addRule}
+use Rattle.typing.specs.Rules.{stuck, breaks, breaksUnless, stuckUnless, isPlainly, lowRegister, registerType, gives, used, known, lowersTo, lowerRule, plainOrLow, addRule}
 use Rattle.typing.specs.Asked.{told}
 
 -- of an array in a struct the length is known through what its entries are to the machine
@@ -42,33 +42,33 @@ module _ (c : Label) (s : State) (r : ℕ) (x : Register) (ex : x ≡ registerTy
     unfolding known
     known-high h = simp (high-is h) (ap (λ (x : Register). x .known) ex)
 
-    pub addable-low : b ≡ true → true ≡ addable c s r
-    unfolding addable either
-    addable-low h = simp (low-is h)
+    pub operand-low : b ≡ true → true ≡ plainOrLow c s r
+    unfolding plainOrLow either
+    operand-low h = simp (low-is h)
 
-    addable-known : (k : Known) → b ≡ false → x .known ≡ k → isPlainly k ≡ addable c s r
-    unfolding addable either
-    addable-known k h e = simp (high-is h) (ap isPlainly (sym e ∙ ap (λ (x : Register). x .known) ex))
+    operand-known : (k : Known) → b ≡ false → x .known ≡ k → isPlainly k ≡ plainOrLow c s r
+    unfolding plainOrLow either
+    operand-known k h e = simp (high-is h) (ap isPlainly (sym e ∙ ap (λ (x : Register). x .known) ex))
 
-    pub addable-unknown : b ≡ false → x .known ≡ Unknown → false ≡ addable c s r
+    pub operand-unknown : b ≡ false → x .known ≡ Unknown → false ≡ plainOrLow c s r
     unfolding isPlainly
-    addable-unknown h e = addable-known Unknown h e
+    operand-unknown h e = operand-known Unknown h e
 
-    pub addable-plain : b ≡ false → x .known ≡ Plain → true ≡ addable c s r
+    pub operand-plain : b ≡ false → x .known ≡ Plain → true ≡ plainOrLow c s r
     unfolding isPlainly
-    addable-plain h e = addable-known Plain h e
+    operand-plain h e = operand-known Plain h e
 
-    pub addable-code : (l : Label) → b ≡ false → x .known ≡ Code l → false ≡ addable c s r
+    pub operand-code : (l : Label) → b ≡ false → x .known ≡ Code l → false ≡ plainOrLow c s r
     unfolding isPlainly
-    addable-code l h e = addable-known (Code l) h e
+    operand-code l h e = operand-known (Code l) h e
 
-    pub addable-cell : (i : ℕ) → b ≡ false → x .known ≡ CellOf i → false ≡ addable c s r
+    pub operand-cell : (i : ℕ) → b ≡ false → x .known ≡ CellOf i → false ≡ plainOrLow c s r
     unfolding isPlainly
-    addable-cell i h e = addable-known (CellOf i) h e
+    operand-cell i h e = operand-known (CellOf i) h e
 
 pub ruleset registers = (register-past, used-is, known-low, known-high)
 
-pub ruleset addables = (addable-low, addable-unknown, addable-plain, addable-code, addable-cell)
+pub ruleset operands = (operand-low, operand-unknown, operand-plain, operand-code, operand-cell)
 
 -- x is what the code hands back
 module _ (c : Label) (s : State) (q : Label) (x : Stepped) (a : Bool) (ea : a ≡ reaches (s .p) q) where
@@ -87,12 +87,12 @@ module _ (c : Label) (s : State) (q : Label) (x : Stepped) (a : Bool) (ea : a �
 
 pub ruleset lowers = (lower-p, lower-c, lower-stuck)
 
-module _ (c : Label) (s : State) (r a b : ℕ) (x : Stepped) (i : Bool) (ei : i ≡ addable c s a) where
+module _ (c : Label) (s : State) (r a b : ℕ) (x : Stepped) (i : Bool) (ei : i ≡ plainOrLow c s a) where
   pub add-not : i ≡ false → told s x ≡ breaks → told s x ≡ addRule c s r a b
   unfolding breaksUnless both
   add-not h e = e ∙ simp (← ei, h)
 
-  module _ (h : i ≡ true) (j : Bool) (ej : j ≡ addable c s b) where
+  module _ (h : i ≡ true) (j : Bool) (ej : j ≡ plainOrLow c s b) where
     pub add-not-second : j ≡ false → told s x ≡ breaks → told s x ≡ addRule c s r a b
     unfolding breaksUnless both
     add-not-second k e = e ∙ simp (← ei, h, ← ej, k)

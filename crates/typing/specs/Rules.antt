@@ -98,12 +98,12 @@ unfoldable pub lowerRule : Label → State → Label → Typed
 lowerRule c t q = stuckUnless (either (reaches (t .p) q) (isLow c q)) (lowersTo t q)
 
 -- "operands of effect above C must be plain"
-unfoldable pub addable : Label → State → ℕ → Bool
-addable c t a = either (isLow c (registerType t a .effect)) (isPlainly (registerType t a .known))
+unfoldable pub plainOrLow : Label → State → ℕ → Bool
+plainOrLow c t a = either (isLow c (registerType t a .effect)) (isPlainly (registerType t a .known))
 
 -- "add: operands of effect above C must be plain; least effect."
 abbrev pub addRule : Label → State → ℕ → ℕ → ℕ → Typed
-addRule c t r a b = breaksUnless (both (addable c t a) (addable c t b)) (gives t r Plain (lower (used t a) (used t b)))
+addRule c t r a b = breaksUnless (both (plainOrLow c t a) (plainOrLow c t b)) (gives t r Plain (lower (used t a) (used t b)))
 
 -- over C and the shapes by their numbers
 module _ (c : Label) (shape : ℕ → Shape) where

@@ -11,7 +11,7 @@ ghost use mathlib.Core.Path.{_≡_};
 ghost use lib.ListN.{getElem?};
 ghost use Rattle.book.specs.Outline.{shapeIn};
 ghost use Rattle.book.specs.Asked.{Sound};
-ghost use Rattle.typing.specs.Rules.{lowersTo, lowerRule, addable, addRule, known, holds, nameRule, codeRule, newRule, readFrom, readRule, writeRule, relabelRule, execRule, startRule};
+ghost use Rattle.typing.specs.Rules.{lowersTo, lowerRule, plainOrLow, addRule, known, holds, nameRule, codeRule, newRule, readFrom, readRule, writeRule, relabelRule, execRule, startRule};
 ghost use Rattle.typing.specs.Asked.{asLabel, told, cellOn};
 
 // P is the label from here on.
@@ -34,9 +34,9 @@ pub fn lower_step(c: Label, t: State, q: Label) -> Stepped
     registers::stop(t)
 }
 
-// An operand of add: low, or plain.
-fn is_addable(c: Label, t: State, a: u8) -> bool
-    ensures { λ x. ⌜ x ≡ addable c t a ⌝ }
+// A register is plain, or its effect is low.
+fn is_plain_or_low(c: Label, t: State, a: u8) -> bool
+    ensures { λ x. ⌜ x ≡ plainOrLow c t a ⌝ }
 {
     let x = registers::register_of(t, a);
     let effect = x.effect;
@@ -55,8 +55,8 @@ fn is_addable(c: Label, t: State, a: u8) -> bool
 pub fn add_step(c: Label, t: State, r: u8, a: u8, b: u8) -> Stepped
     ensures { λ x. ⌜ told t x ≡ addRule c t r a b ⌝ }
 {
-    if is_addable(c, t, a) {
-        if is_addable(c, t, b) {
+    if is_plain_or_low(c, t, a) {
+        if is_plain_or_low(c, t, b) {
             let u = registers::used_effect(t, a);
             let v = registers::used_effect(t, b);
             return registers::give(t, r, Known::Plain, u.lower_of(v));

@@ -10,8 +10,8 @@ add-step-spec =
     (tie.spec
     (λ c κs. search needs) (λ c κs. search needs) (λ c κs. search needs) (λ c κs. search needs) (λ c κs. search needs)
     (λ c κs. search needs)
-    (λ c. search adds)  -- is_addable(c, t, b)
+    (λ c. search adds)  -- is_plain_or_low(c, t, b)
     (λ c κs. search needs)
-    (λ c. search adds)  -- not is_addable(c, t, b)
+    (λ c. search adds)  -- not is_plain_or_low(c, t, b)
     (λ c κs. search needs)
-    (λ c. search adds))  -- not is_addable(c, t, a)
+    (λ c. search adds))  -- not is_plain_or_low(c, t, a)
