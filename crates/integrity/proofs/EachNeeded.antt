@@ -86,7 +86,7 @@ needed-there bytes events shapes cells blocks steps accepted e =
 
 pub each-needed : EachNeeded
 unfolding lower normal capped both either valueOf valueNamed viewOf onSome alikeIn alike knownOf fits knownValue declaredOk breaksUnless stuckUnless R.onKnownCell R.onKnownCode
-    isPlainly fresh known R.lowerRule plainOrLow holds lowRule highRule stepRule given onPlain onCell onCode execLabel writeAct relabelAct newAct startAct
+    isPlainly fresh known R.lowerRule R.startable plainOrLow holds lowRule highRule stepRule given onPlain onCell onCode execLabel writeAct relabelAct newAct startAct
     execAct summable addStep readStep lowerStep turnOf landed turnLanded outcomeOf stateAfter alikeBy fitsBy declaredBy stepRuleBy walkBy every acceptedBy
     L.writeActBy L.relabelActBy L.execActBy L.lowerStepBy turnBy outcomeBy stateBy cellHolds jobHolds sentencesHold those while sweep span limits group
     numberAt cutBy offsetsIn offsetsBy groupOf stepsFrom shapeAt declaredAt stepAt blockAt parse cutFault inOrder misplaced orderFault counted tooMany
@@ -307,7 +307,7 @@ each-needed =
 -- there, and one at 4 is not.
 pub launch-needed : LaunchNeeded
 unfolding lower normal capped both either valueOf valueNamed viewOf onSome alikeIn alike knownOf fits knownValue declaredOk breaksUnless stuckUnless R.onKnownCell R.onKnownCode
-    isPlainly fresh known R.lowerRule plainOrLow holds lowRule highRule stepRule given onPlain onCell onCode execLabel writeAct relabelAct newAct startAct
+    isPlainly fresh known R.lowerRule R.startable plainOrLow holds lowRule highRule stepRule given onPlain onCell onCode execLabel writeAct relabelAct newAct startAct
     execAct summable addStep readStep lowerStep turnOf landed turnLanded outcomeOf stateAfter alikeBy fitsBy declaredBy stepRuleBy walkBy every acceptedBy
     L.writeActBy L.relabelActBy L.execActBy L.lowerStepBy turnBy outcomeBy stateBy cellHolds jobHolds sentencesHold those while sweep span limits group
     numberAt cutBy offsetsIn offsetsBy groupOf stepsFrom shapeAt declaredAt stepAt blockAt parse cutFault inOrder misplaced orderFault counted tooMany

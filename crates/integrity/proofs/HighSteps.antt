@@ -2,7 +2,7 @@
 -- Assumes nothing.
 use mathlib.Core.Path.{_≡_, refl, ap}
 use mathlib.Core.Bool.{Bool, true, false, not}
-use mathlib.Core.Option.{some}
+use mathlib.Core.Option.{Option, none, some}
 use mathlib.Core.List.{map}
 use Prim.Native.Nat.{ℕ, max, _<_, _≤_}
 use native.Mathlib.Omega.{arith}
@@ -19,7 +19,7 @@ use Rattle.book.proofs.Tests.{clash, both-left, both-right, either-left, either
 use Rattle.typing.specs.declared.Known.the-variants as N
 use Rattle.typing.specs.declared.State as T
 use Rattle.typing.specs.Shapes.{isCellShape, contentOf, countedTrust, isHighTrust, knownOf}
-use Rattle.typing.specs.Rules.{known, isLow, holds, used}
+use Rattle.typing.specs.Rules.{passes, known, isLow, holds, used}
 use Rattle.typing.specs.Rules as R
 use Rattle.machine.specs.Histories.{sources}
 use Rattle.machine.specs.States.{Cell, Job, State}
@@ -206,20 +206,33 @@ module _ (K : Book) (size : ℕ) (s : State Label) (v : Invariant K s) (ok : Gro
       blocks i k c ei ek ec el eo true p false q f = let y = m .label in omega facts
       blocks i k c ei ek ec el eo true p true q f = clash (both-true _ _ p q) f
 
-  pub start-ok : (b : ℕ)
-      → StepOk K (s .cells) j (R.startRule t (getElem? (map (λ (b : Block). b .bound) (K .blocks)) b))
-      (record { job = moved sources j; effect = startAct sources size s (j .label) (j .history) b })
-  unfolding startAct
-  start-ok b =
-      some-ok K (λ l e. need-ok K (λ p. given-effect K (λ f.
-      moves-ok K s j t m _ (launch-ok (fresh-ok K (s .cells) pass b (j .label) (j .history) (reaching l e (leb-true _ _ p)) (m .source))))))
+  abbrev boundAt : ℕ → Option Label
+  boundAt b = getElem? (map (λ (b : Block). b .bound) (K .blocks)) b
+
+  -- block b may be started here
+  Fitting : ℕ → Type 0
+  Fitting b = j .label .0 ≤ max (K .c .0) (blockOf K b .bound .0)
+
+  startable-fits : (b : ℕ) → R.startable (t .p) (boundAt b) ≡ true → Fitting b
+  unfolding Fitting R.startable
+  startable-fits b p = go (boundAt b) refl p
     where
-      reaching : (l : Label) → getElem? (map (λ (b : Block). b .bound) (K .blocks)) b ≡ some l → t .p .0 ≤ l .0 → j .label .0 ≤ max (K .c .0) (blockOf K b .bound .0)
-      reaching l e p =
+      go : (k : Option Label) → boundAt b ≡ k → R.startable (t .p) k ≡ true → Fitting b
+      go none e p = clash p refl
+      go (some l) e p =
+          let q : t .p .0 ≤ l .0 = leb-true _ _ p in
           let z : blockOf K b .bound ≡ l = bound-is (K .blocks) b l e in
           let y : blockOf K b .bound .0 ≡ l .0 = ap (λ (l : Label). l .0) z in
           let x = m .label in
           omega arith
+
+  started-ok : (b : ℕ) → Fitting b → StepOk K (s .cells) j (passes t) (record { job = moved sources j; effect = startAct sources size s (j .label) (j .history) b })
+  unfolding Fitting startAct
+  started-ok b h = given-effect K (λ f. moves-ok K s j t m _ (launch-ok (fresh-ok K (s .cells) pass b (j .label) (j .history) h (m .source))))
+
+  pub start-ok : (b : ℕ)
+      → StepOk K (s .cells) j (R.startRule t (boundAt b)) (record { job = moved sources j; effect = startAct sources size s (j .label) (j .history) b })
+  start-ok b = need-ok K (λ p. started-ok b (startable-fits b p))
 
   pub exec-ok : (w : ℕ) → K .c .0 < t .p .0
       → StepOk K (s .cells) j (R.execRule (K .c) (shapeOf K) t w) (through sources j w (execAct sources size s (j .label) (j .history)))

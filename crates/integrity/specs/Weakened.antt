@@ -29,7 +29,7 @@ use Rattle.typing.specs.declared.State.{State}
 use Rattle.typing.specs.declared.Verdict.the-variants.{Accepted, Refused}
 use Rattle.typing.specs.Shapes.{View, viewOf, isPlainShape, isCodeShape, isCellShape, boundOf, contentOf, countedTrust, isHighTrust, knownOf, knownValue}
 use Rattle.typing.specs.Rules.{Typed, passes, stuck, breaks, breaksUnless, stuckUnless, onKnownCell, onKnownCode, registerType, gives, givesLow, fresh, used, isLow}
-use Rattle.typing.specs.Rules.{known, lowersTo, plainOrLow, lowRule, highRule, stepRule}
+use Rattle.typing.specs.Rules.{known, lowersTo, plainOrLow, startable, lowRule, highRule, stepRule}
 use Rattle.typing.specs.Verdict.{verdict}
 use Rattle.machine.specs.declared.Event.{Event}
 use Rattle.machine.specs.Histories.{lists}
@@ -162,7 +162,7 @@ module _ (weakened : String) where
 
   -- "start: the block's bound is at least P."
   abbrev pub startRuleBy : State → Option Label → Typed
-  startRuleBy t bound = onSome bound breaks (λ k. breaksUnless (asked "start: bound at least P" (reaches k (t .p))) (passes t))
+  startRuleBy t bound = breaksUnless (asked "start: bound at least P" (startable (t .p) bound)) (passes t)
 
   module _ (B : View) where
     -- "A declared cell of trust above C needs label at least trust and a fitting value. Others need nothing."

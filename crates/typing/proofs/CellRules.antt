@@ -1,9 +1,10 @@
 -- Laws of the rules that go by shapes, for the code: what a callee gave stands as a variable with its equation.
---     names, codes, starts, holdings, ons, news, reads, writes, relabels, execs      one set for each
+--     names, codes, startables, starts, holdings, ons, news, reads, writes, relabels, execs      one set for each
 -- Assumes nothing.
 use mathlib.Core.Path.{_≡_, refl, sym, ap, _∙_}
 use mathlib.Core.Bool.{Bool, true, false}
 use mathlib.Core.List.{List}
+use mathlib.Core.Option.{Option}
 use Prim.Native.Nat.{ℕ, _≤_, _<_}
 use lib.Dec.{eqb}
 use lib.ListN.{length, getD, getElem?}
@@ -24,7 +25,7 @@ use Rattle.typing.specs.declared.State.{State}
 use Rattle.typing.specs.declared.Stepped.{Stepped}
 use Rattle.typing.specs.Shapes.{contentOf, countedTrust, isHighTrust, knownOf, fits}
 use Rattle.typing.specs.Rules.{Typed, passes, stuck, breaks, breaksUnless, stuckUnless, onKnownCell, onKnownCode, registerType, gives, givesLow, used, known, holds}
-use Rattle.typing.specs.Rules.{nameRule, codeRule, newRule, readFrom, readRule, writeRule, relabelRule, execRule, startRule}
+use Rattle.typing.specs.Rules.{nameRule, codeRule, newRule, readFrom, readRule, writeRule, relabelRule, execRule, startable, startRule}
 use Rattle.typing.specs.Asked.{asLabel, told, cellOn}
 
 -- x is what the code hands back
@@ -54,22 +55,29 @@ module _ (s : State) (bounds : List ℕ) (b : ℕ) (x : Stepped) where
   unfolding onSome asLabel
   code-some r h e = e ∙ simp (at-some bounds b h)
 
-  pub start-none : length bounds ≤ b → told s x ≡ breaks → told s x ≡ startRule s (asLabel (getElem? bounds b))
-  unfolding onSome asLabel
-  start-none h e = e ∙ simp (at-none bounds b h)
-
-  module _ (h : b < length bounds) (q : Bool) (eq : q ≡ reaches (label (getD bounds b 0)) (s .p)) where
-    pub start-low : q ≡ false → told s x ≡ breaks → told s x ≡ startRule s (asLabel (getElem? bounds b))
-    unfolding onSome asLabel breaksUnless
-    start-low n e = e ∙ simp (at-some bounds b h, ← eq, n)
-
-    pub start-high : q ≡ true → told s x ≡ passes s → told s x ≡ startRule s (asLabel (getElem? bounds b))
-    unfolding onSome asLabel breaksUnless
-    start-high n e = e ∙ simp (at-some bounds b h, ← eq, n)
-
 pub ruleset codes = (code-none, code-some)
 
-pub ruleset starts = (start-none, start-low, start-high)
+module _ (p : Label) (bounds : List ℕ) (b : ℕ) where
+  pub startable-none : length bounds ≤ b → false ≡ startable p (asLabel (getElem? bounds b))
+  unfolding startable asLabel
+  startable-none h = simp (at-none bounds b h)
+
+  pub startable-some : (q : Bool) → b < length bounds → q ≡ reaches (label (getD bounds b 0)) p → q ≡ startable p (asLabel (getElem? bounds b))
+  unfolding startable asLabel
+  startable-some q h e = e ∙ simp (at-some bounds b h)
+
+pub ruleset startables = (startable-none, startable-some)
+
+module _ (s : State) (bound : Option Label) (x : Stepped) (q : Bool) (eq : q ≡ startable (s .p) bound) where
+  pub start-low : q ≡ false → told s x ≡ breaks → told s x ≡ startRule s bound
+  unfolding breaksUnless
+  start-low n e = e ∙ simp (← eq, n)
+
+  pub start-high : q ≡ true → told s x ≡ passes s → told s x ≡ startRule s bound
+  unfolding breaksUnless
+  start-high n e = e ∙ simp (← eq, n)
+
+pub ruleset starts = (start-low, start-high)
 
 module _ (c : Label) (shape : ℕ → Shape) (s : State) (a i : ℕ) (y : Shape) (k : Known) (b : Bool) (ey : y ≡ shape i) (ek : k ≡ known c s a)
     (eb : b ≡ fits c shape k (y .content)) where

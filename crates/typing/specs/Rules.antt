@@ -170,9 +170,14 @@ module _ (c : Label) (shape : ℕ → Shape) where
 abbrev pub codeRule : State → ℕ → Option Label → Typed
 codeRule t r bound = onSome bound breaks (λ k. gives t r (Code k) (t .p))
 
+-- "the block's bound is at least P"; a block that the book does not have cannot be started
+unfoldable pub startable : Label → Option Label → Bool
+startable p none = false
+startable p (some k) = reaches k p
+
 -- "start: the block's bound is at least P."
 abbrev pub startRule : State → Option Label → Typed
-startRule t bound = onSome bound breaks (λ k. breaksUnless (reaches k (t .p)) (passes t))
+startRule t bound = breaksUnless (startable (t .p) bound) (passes t)
 
 module _ (B : View) where
   unfoldable pub highRule : State → Step → Typed

@@ -11,7 +11,7 @@ ghost use mathlib.Core.Path.{_≡_};
 ghost use lib.ListN.{getElem?};
 ghost use Rattle.book.specs.Outline.{shapeIn};
 ghost use Rattle.book.specs.Asked.{Sound};
-ghost use Rattle.typing.specs.Rules.{lowersTo, lowerRule, plainOrLow, addRule, known, holds, nameRule, codeRule, newRule, readFrom, readRule, writeRule, relabelRule, execRule, startRule};
+ghost use Rattle.typing.specs.Rules.{lowersTo, lowerRule, plainOrLow, addRule, known, holds, nameRule, codeRule, newRule, readFrom, readRule, writeRule, relabelRule, execRule, startable, startRule};
 ghost use Rattle.typing.specs.Asked.{asLabel, told, cellOn};
 
 // P is the label from here on.
@@ -94,17 +94,24 @@ pub fn code_step(bounds: &[u8], t: State, r: u8, b: u8) -> Stepped
     registers::fail(t)
 }
 
-pub fn start_step(bounds: &[u8], t: State, b: u8) -> Stepped
-    ensures { λ x. ⌜ told t x ≡ startRule t (asLabel (getElem? (now (bounds .entry)) b)) ⌝ }
+// The block's bound is at least P.
+fn is_startable(bounds: &[u8], p: Label, b: u8) -> bool
+    ensures { λ x. ⌜ x ≡ startable p (asLabel (getElem? (now (bounds .entry)) b)) ⌝ }
 {
     let n = b as usize;
     if n < bounds.len() {
         let bound = Label(bounds[n]);
-        let p = t.p;
-        if bound.reaches(p) {
-            return registers::pass(t);
-        }
-        return registers::fail(t);
+        return bound.reaches(p);
+    }
+    false
+}
+
+pub fn start_step(bounds: &[u8], t: State, b: u8) -> Stepped
+    ensures { λ x. ⌜ told t x ≡ startRule t (asLabel (getElem? (now (bounds .entry)) b)) ⌝ }
+{
+    let p = t.p;
+    if is_startable(bounds, p, b) {
+        return registers::pass(t);
     }
     registers::fail(t)
 }

@@ -8,9 +8,7 @@ pub start-step-spec : {M : Type 1} → statement M
 start-step-spec =
     tie.close
     (tie.spec
-    (λ c. search needs) (λ c κs. search needs) (λ c κs. search needs)
-    (λ c. search starts)  -- bound.reaches(p)
+    (λ c κs. search needs) (λ c κs. search needs)
+    (λ c. search starts)  -- is_startable(bounds, p, b)
     (λ c κs. search needs)
-    (λ c. search starts)  -- not bound.reaches(p)
-    (λ c κs. search needs)
-    (λ c. search starts))  -- not (n < bounds.len())
+    (λ c. search starts))  -- not is_startable(bounds, p, b)
