@@ -23,7 +23,7 @@ enum { LONGEST_BOOK = 32768, LONGEST_LIST = 65536, VALUE_SIZE = 6 };
 
 /* Kinds of record: C, shapes, a cell, a block, and the steps. */
 enum { C = 1, PLAIN_SHAPE = 16, CODE_SHAPE, CELL_SHAPE, CELL = 32, BLOCK = 48 };
-enum { PUT = 64, NAME, CODE, ADD, NEW, READ, WRITE, RELABEL, LOWER, START, EXEC };
+enum { PUT = 64, NAME, CODE, ADD, NEW, READ, WRITE, RELABEL, LOWER, START, EXEC, CHOOSE };
 
 /* Kinds of event: a job's step, and the acts of outsiders. */
 enum { STEP_EVENT = 80, WRITE_EVENT, RELABEL_EVENT, NEW_EVENT, EXEC_EVENT, START_EVENT };
@@ -141,6 +141,11 @@ static uint32_t read_step(struct outline *outline, const uint8_t *step, uint32_t
         return left < 2 || !note(&outline->blocks_named, step[1], BLOCKS) ? 0 : 2;
     case EXEC:
         return left < 2 || step[1] > LAST_REGISTER ? 0 : 2;
+    case CHOOSE:
+        if (left < 4 || step[1] > LAST_REGISTER) {
+            return 0;
+        }
+        return note(&outline->blocks_named, step[2], BLOCKS) && note(&outline->blocks_named, step[3], BLOCKS) ? 4 : 0;
     default:
         return 0;
     }
@@ -374,6 +379,18 @@ static uint32_t type_lower(struct typing *typing, uint8_t q)
     return 2;
 }
 
+/* Both bounds are at least P, and r is plain unless its effect is low. */
+static uint32_t type_choose(const struct typing *typing, const uint8_t *step)
+{
+    const struct outline *outline = typing->outline;
+    const struct known r = typing->registers[step[1]];
+
+    if (outline->bound[step[2]] < typing->p || outline->bound[step[3]] < typing->p) {
+        return BREAKS;
+    }
+    return r.effect <= outline->c || r.kind == PLAIN_SHAPE ? 4 : BREAKS;
+}
+
 /* With P at or below C every step passes, except new with trust above C; results are low. */
 static uint32_t type_low_step(struct typing *typing, const uint8_t *step)
 {
@@ -397,6 +414,8 @@ static uint32_t type_low_step(struct typing *typing, const uint8_t *step)
         return 3;
     case LOWER:
         return type_lower(typing, step[1]);
+    case CHOOSE:
+        return 4;
     default:
         return 2;
     }
@@ -428,6 +447,8 @@ static uint32_t type_step(struct typing *typing, const uint8_t *step)
         return type_lower(typing, step[1]);
     case START:
         return outline->bound[step[1]] >= p ? 2 : BREAKS;
+    case CHOOSE:
+        return type_choose(typing, step);
     default:
         return type_access(typing, step);
     }
@@ -629,6 +650,13 @@ static uint32_t step_exec(struct machine *machine, const struct job *job, const 
     return w.kind == CELL_VALUE && exec_cell(machine, &machine->cell[w.number], job->label, job->source) ? 2 : 0;
 }
 
+static uint32_t step_choose(struct machine *machine, const struct job *job, const uint8_t *step)
+{
+    const struct value r = job->registers[step[1]];
+
+    return r.kind == PLAIN_VALUE && start_job(machine, step[r.number != 0 ? 2 : 3], job->label, job->source) ? 4 : 0;
+}
+
 static uint32_t take_step(struct machine *machine, struct job *job, const uint8_t *step)
 {
     switch (step[0]) {
@@ -652,6 +680,8 @@ static uint32_t take_step(struct machine *machine, struct job *job, const uint8_
         return step_lower(job, step[1]);
     case START:
         return start_job(machine, step[1], job->label, job->source) ? 2 : 0;
+    case CHOOSE:
+        return step_choose(machine, job, step);
     default:
         return step_exec(machine, job, step);
     }
@@ -903,7 +933,7 @@ struct rows {
     size_t shapes, cells, blocks, steps;
 };
 
-/* The bits that each byte of a step's row may have, from put to exec: those of a register or a label, all of a name or a number, and none
+/* The bits that each byte of a step's row may have, from put to choose: those of a register or a label, all of a name or a number, and none
  * of what is not used. */
 static const uint8_t STEP_BITS[][XEMDULBA_STEP_ROW] = {
     {255, 7, 0, 0, 255, 255, 255, 255},
@@ -917,9 +947,10 @@ static const uint8_t STEP_BITS[][XEMDULBA_STEP_ROW] = {
     {255, 15, 0, 0, 0, 0, 0, 0},
     {255, 255, 0, 0, 0, 0, 0, 0},
     {255, 7, 0, 0, 0, 0, 0, 0},
+    {255, 7, 255, 255, 0, 0, 0, 0},
 };
 
-static const uint8_t STEP_LENGTHS[] = {6, 3, 3, 4, 4, 3, 3, 3, 2, 2, 2};
+static const uint8_t STEP_LENGTHS[] = {6, 3, 3, 4, 4, 3, 3, 3, 2, 2, 2, 4};
 
 static uint64_t eight_bytes(const uint8_t *bytes)
 {
@@ -963,11 +994,12 @@ static uint32_t step_length(const struct rows *rows, const uint8_t *row)
 {
     uint32_t kind = row[0] - (uint32_t)PUT;
 
-    if (kind > EXEC - PUT || (eight_bytes(row) & ~eight_bytes(STEP_BITS[kind])) != 0) {
+    if (kind > CHOOSE - PUT || (eight_bytes(row) & ~eight_bytes(STEP_BITS[kind])) != 0) {
         return 0;
     }
     if ((row[0] == NAME && row[2] >= rows->cells) || (row[0] == CODE && row[2] >= rows->blocks) ||
-        (row[0] == NEW && !names_cell_shape(rows, row[2])) || (row[0] == START && row[1] >= rows->blocks)) {
+        (row[0] == NEW && !names_cell_shape(rows, row[2])) || (row[0] == START && row[1] >= rows->blocks) ||
+        (row[0] == CHOOSE && (row[2] >= rows->blocks || row[3] >= rows->blocks))) {
         return 0;
     }
     return STEP_LENGTHS[kind];
@@ -1027,6 +1059,7 @@ static uint8_t *write_step(uint8_t *out, const uint8_t *row)
         return out + 6;
     case ADD:
     case NEW:
+    case CHOOSE:
         memcpy(out, row, 4);
         return out + 4;
     case LOWER:

@@ -23,9 +23,9 @@ extern "C" {
 #define XEMDULBA_VERSION "0.2.0"
 
 /* The change requests from one to this number hold: one is the writer, two blocks sums that pass the top, three launches
- * low by default. A call whose parameters a request changes is changed in place: what was compiled with an older header has to be
- * compiled again, and a call of the older form does not compile. */
-#define XEMDULBA_REQUEST 3
+ * low by default, four is the step choose. A call whose parameters a request changes is changed in place: what was compiled with an
+ * older header has to be compiled again, and a call of the older form does not compile. */
+#define XEMDULBA_REQUEST 4
 
 /* The refusals, and what the rule of each says. A refusal has a place: the offset of the first record at fault in the book, or of the
  * first event at fault in the list for 9. It is 0 for 1 and for 10 to 14, where a list is too long, and where the first record is
@@ -119,7 +119,8 @@ struct xemdulba_written {
  *   value, 6 bytes    kind (0 plain, 1 cell, 2 code), number (4 bytes), source
  *   cell, 9 bytes     shape, trust, label, value
  *   job, 52 bytes     block, position (how many of the block's steps are done), label, source, the values of registers 0 to 7
- * A source is the lowest label of all that touched the value, or the job. */
+ * A source is the lowest label of all that touched the value, or the job. Who decided that a job was started, by what a choose went by, is
+ * not in it. */
 #define XEMDULBA_CELL_SIZE 9
 #define XEMDULBA_JOB_SIZE 52
 #define XEMDULBA_CELLS_SIZE 576
@@ -130,7 +131,7 @@ struct xemdulba_written {
  *   cell, 7 bytes     shape, label, value kind, number (4 bytes)
  *   block, 5 bytes    bound, how many steps it has (4 bytes)
  *   step, 8 bytes     kind, x, y, z, number (4 bytes)
- * A kind is 16 to 18 in a shape, and 64 to 74 in a step; x, y and z are the fields of one byte that xemdulba_record has for the kind, in
+ * A kind is 16 to 18 in a shape, and 64 to 75 in a step; x, y and z are the fields of one byte that xemdulba_record has for the kind, in
  * that order, and those that it does not have are 0. So is the number of every step but put. */
 #define XEMDULBA_SHAPE_ROW 3
 #define XEMDULBA_CELL_ROW 7
@@ -154,7 +155,7 @@ struct xemdulba_stretch xemdulba_block(const uint8_t *book, size_t length, uint3
  *   32 cell: shape, label, value kind, number               48 block: bound
  *   64 put: r, number           65 name: r, cell            66 code: r, block           67 add: r, a, b
  *   68 new: r, shape, a         69 read: r, w               70 write: w, a              71 relabel: w, label
- *   72 lower: label             73 start: block             74 exec: w */
+ *   72 lower: label             73 start: block             74 exec: w                  75 choose: r, block, block */
 struct xemdulba_told xemdulba_record(const uint8_t *book, size_t length, size_t offset);
 
 /* Tells the event at an offset of a list, as xemdulba_record tells a record, also of a list that is longer than 65,536 bytes. The
@@ -174,9 +175,11 @@ struct xemdulba_told xemdulba_event(const uint8_t *list, size_t length, size_t o
  *   81 write: label, cell, value kind, number        82 relabel: label, cell, label        83 new: label, shape, value kind, number
  *   84 exec: label, cell                             85 start: label, block
  * The answer of event I is byte I of `answers`: 0 done, 1 blocked, 2 no step left, 3 no such; 1 to 3 change nothing. A step add is
- * blocked unless both operands are plain and their exact sum is at most 4,294,967,295; xemdulba-book(5) has each step. Bytes of
- * `answers` beyond the events keep their contents. What `cells`, `jobs` and `answers` held before plays no part. On a refusal
- * nothing is written. The caller sees to it that `cells`, `jobs` and `answers` overlap neither each other nor the book or the list. */
+ * blocked unless both operands are plain and their exact sum is at most 4,294,967,295. A step choose starts its first block if r is
+ * plain and not 0, its second if r is plain 0, and is blocked otherwise or when 64 jobs exist; the job has the chooser's label, and its
+ * history is the chooser's alone. xemdulba-book(5) has each step. Bytes of `answers` beyond the events keep their contents. What
+ * `cells`, `jobs` and `answers` held before plays no part. On a refusal nothing is written. The caller sees to it that `cells`, `jobs`
+ * and `answers` overlap neither each other nor the book or the list. */
 struct xemdulba_ran xemdulba_run(const uint8_t *book, size_t length, uint32_t launch, const uint8_t *list, size_t list_length,
                                  uint8_t *cells, size_t cells_length, uint8_t *jobs, size_t jobs_length, uint8_t *answers,
                                  size_t answers_length);

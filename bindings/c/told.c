@@ -18,15 +18,17 @@ static void expect(const char *name, struct xemdulba_told told, uint32_t kind, u
     }
 }
 
-/* A cell, and the first bytes of a put. */
+/* A cell, a choose, and the first bytes of a put. */
 static void tell_records(void)
 {
-    static const uint8_t book[] = {0x01, 0x03, 0x20, 0x01, 0x09, 0x02, 0x78, 0x56, 0x34, 0x12, 0x40, 0x07};
+    static const uint8_t book[] = {0x01, 0x03, 0x20, 0x01, 0x09, 0x02, 0x78, 0x56, 0x34, 0x12, 0x4B, 0x07, 0x3F, 0x3E, 0x40, 0x07};
 
     expect("C", xemdulba_record(book, sizeof book, 0), 1, 3, 0, 0, 0, 2);
     expect("a cell", xemdulba_record(book, sizeof book, 2), 32, 1, 9, 2, 0x12345678, 10);
+    expect("a choose", xemdulba_record(book, sizeof book, 10), 75, 7, 63, 62, 0, 14);
+    expect("a cut choose", xemdulba_record(book, 13, 10), 0, 0, 0, 0, 0, 0);
     expect("an unknown kind", xemdulba_record(book, sizeof book, 1), 0, 0, 0, 0, 0, 0);
-    expect("a cut put", xemdulba_record(book, sizeof book, 10), 0, 0, 0, 0, 0, 0);
+    expect("a cut put", xemdulba_record(book, sizeof book, 14), 0, 0, 0, 0, 0, 0);
     expect("the end", xemdulba_record(book, sizeof book, sizeof book), 0, 0, 0, 0, 0, 0);
     expect("far past the end", xemdulba_record(book, sizeof book, SIZE_MAX), 0, 0, 0, 0, 0, 0);
     expect("no book", xemdulba_record(book, 0, 0), 0, 0, 0, 0, 0, 0);
@@ -43,11 +45,11 @@ static void tell_events(void)
     expect("far past the end", xemdulba_event(list, sizeof list, SIZE_MAX), 0, 0, 0, 0, 0, 0);
 }
 
-/* A code shape and a cell shape, a cell, and two blocks, the second with a put. */
+/* A code shape and a cell shape, a cell, and two blocks, the second with a put and a choose. */
 static const uint8_t shapes[] = {0x11, 0x0F, 0x00, 0x12, 0x00, 0x0E};
 static const uint8_t cells[] = {0x01, 0x0D, 0x02, 0x01, 0x00, 0x00, 0x00};
-static const uint8_t blocks[] = {0x0C, 0x00, 0x00, 0x00, 0x00, 0x0B, 0x01, 0x00, 0x00, 0x00};
-static const uint8_t steps[] = {0x40, 0x07, 0x00, 0x00, 0x78, 0x56, 0x34, 0x12};
+static const uint8_t blocks[] = {0x0C, 0x00, 0x00, 0x00, 0x00, 0x0B, 0x02, 0x00, 0x00, 0x00};
+static const uint8_t steps[] = {0x40, 0x07, 0x00, 0x00, 0x78, 0x56, 0x34, 0x12, 0x4B, 0x07, 0x01, 0x00, 0x00, 0x00, 0x00, 0x00};
 
 static void expect_written(const char *name, uint32_t c, uint8_t *out, size_t room, uint32_t refusal, uint32_t length)
 {
@@ -68,19 +70,20 @@ static void expect_bytes(const char *name, const uint8_t *out, const uint8_t *by
     }
 }
 
-/* The buffer has 25 bytes for the book, and two more that are kept. */
+/* The buffer has 29 bytes for the book, and two more that are kept. */
 static void write_book(void)
 {
     static const uint8_t book[] = {0x01, 0x00, 0x11, 0x0F, 0x12, 0x00, 0x0E, 0x20, 0x01, 0x0D, 0x02, 0x01, 0x00, 0x00,
-                                   0x00, 0x30, 0x0C, 0x30, 0x0B, 0x40, 0x07, 0x78, 0x56, 0x34, 0x12, 0xA5, 0xA5};
+                                   0x00, 0x30, 0x0C, 0x30, 0x0B, 0x40, 0x07, 0x78, 0x56, 0x34, 0x12, 0x4B, 0x07, 0x01,
+                                   0x00, 0xA5, 0xA5};
     uint8_t before[sizeof book], out[sizeof book];
 
     memset(before, 0xA5, sizeof before);
     memset(out, 0xA5, sizeof out);
-    expect_written("a short buffer", 0, out, 24, XEMDULBA_REFUSED_OUTPUT, 0);
+    expect_written("a short buffer", 0, out, 28, XEMDULBA_REFUSED_OUTPUT, 0);
     expect_written("a C of 15", 15, out, sizeof out, XEMDULBA_REFUSED_TOO_HIGH, 0);
     expect_bytes("a refusal", out, before, sizeof out);
-    expect_written("a book", 0, out, sizeof out, XEMDULBA_NOT_REFUSED, 25);
+    expect_written("a book", 0, out, sizeof out, XEMDULBA_NOT_REFUSED, 29);
     expect_bytes("a book", out, book, sizeof out);
 }
 

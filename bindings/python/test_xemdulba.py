@@ -1,5 +1,5 @@
 """The sample books and runs of document 01, the tables of docs/FORMAT.md, the books that are written by document 02's request one, the
-launch labels of its request three, and what the module accepts."""
+launch labels of its request three, the step choose of its request four, and what the module accepts."""
 
 import array
 import ctypes
@@ -178,6 +178,67 @@ class Launched(Refusing):
         self.assertRaises(ValueError, xemdulba.run, b"", b"", -1)
 
 
+def book_that_chooses(steps, bound=12, others=(12, 12)):
+    """C is 3. Cell 0 is official, of trust 9, and cell 1 scratch, of trust 2. Block 0 has these steps, from 27 on, the others none."""
+    declared = bytes.fromhex("01 03  10  12 00 09  12 00 02  20 01 09 00 05 00 00 00  20 02 02 00 00 00 00 00")
+    first, second = others
+    return declared + bytes([0x30, bound]) + bytes.fromhex(steps) + bytes([0x30, first, 0x30, second])
+
+
+class Chosen(Refusing):
+    def run_on(self, steps, events):
+        """A run at the bound: its answers, and the block, position, label and source of each job."""
+        run = run_at_bound(book_that_chooses(steps), bytes.fromhex(events))
+        return run.answers, [job[:4] for job in run.jobs]
+
+    def test_one_of_two_blocks_is_started(self):
+        for number in (0, 1, 2, 2**8, 2**16, 2**24, 2**31, 2**32 - 1):
+            put = f"40 03 {number.to_bytes(4, 'little').hex()}"
+            answers, jobs = self.run_on(f"{put} 4B 03 01 02", "50 00 50 00 50 00")
+            self.assertEqual(answers, (0, 0, 2))
+            self.assertEqual(jobs, [(0, 2, 12, 12), (2 if number == 0 else 1, 0, 12, 12)])
+
+    def test_what_is_not_plain_blocks(self):
+        for value in ("41 00 00", "42 00 01"):
+            self.assertEqual(self.run_on(f"{value} 4B 00 01 02", "50 00 50 00 50 00"), ((0, 1, 1), [(0, 1, 12, 12)]))
+
+    def test_the_65th_job_is_blocked(self):
+        answers, jobs = self.run_on("4B 00 01 02  4B 00 01 02", "55 00 01" * 62 + "50 00 50 00 50 00")
+        self.assertEqual(answers[62:], (0, 1, 1))
+        self.assertEqual((len(jobs), jobs[0], jobs[63]), (64, (0, 1, 12, 12), (2, 0, 12, 12)))
+
+    def test_the_job_has_the_choosers_label_and_history(self):
+        """An outsider at 2 writes a number; job 0 reads it, lowers itself to 8, and chooses by it."""
+        steps, events = "41 00 01  45 00 00  48 08  4B 00 01 02", "51 02 01 00 07 00 00 00  50 00 50 00 50 00 50 00"
+        run = run_at_bound(book_that_chooses(steps), bytes.fromhex(events))
+        self.assertEqual(run.answers, (0,) * 5)
+        self.assertEqual(run.jobs[0].registers[0], Value(Kind.PLAIN, 7, 2))
+        self.assertEqual(run.jobs[1], (1, 0, 8, 8, (Value(Kind.PLAIN, 0, 8),) * 8))
+
+    def test_both_bounds_are_at_least_p(self):
+        self.assertEqual(xemdulba.check(book_that_chooses("4B 00 01 02")), (3, 2, 3, 1))
+        for others in ((11, 12), (12, 11), (11, 11)):
+            self.assert_refused(8, 27, xemdulba.check, book_that_chooses("4B 00 01 02", 12, others))
+            xemdulba.check(book_that_chooses("48 0B  4B 00 01 02", 12, others))
+        xemdulba.check(book_that_chooses("4B 00 01 02", 3, (0, 0)))
+
+    def test_r_is_plain_or_of_low_effect(self):
+        for value in ("41 00 00", "42 00 00"):
+            self.assert_refused(8, 30, xemdulba.check, book_that_chooses(f"{value} 4B 00 01 02"))
+            xemdulba.check(book_that_chooses(f"{value} 4B 00 01 02", 3))
+        for cell in ("00", "01"):
+            xemdulba.check(book_that_chooses(f"41 00 {cell}  45 00 00  4B 00 01 02"))
+
+    def test_a_field_above_its_limit_and_a_block_that_is_not_there(self):
+        for step in ("4B 08 01 02", "4B FF 03 03"):
+            self.assert_refused(5, 27, xemdulba.check, book_that_chooses(step))
+        for step in ("4B 07 03 02", "4B 07 02 03", "4B 07 FF FF"):
+            self.assert_refused(6, 27, xemdulba.check, book_that_chooses(step))
+        for cut in ("4B", "4B 00", "4B 00 00"):
+            self.assert_refused(2, 4, xemdulba.check, least(3, 12) + bytes.fromhex(cut))
+        self.assert_refused(2, 4, xemdulba.check, least(3, 12) + bytes.fromhex("4C 00 00 00"))
+
+
 # Bytes of a record or an event of each kind, then its fields of one byte, absent ones 0, and its number.
 RECORDS = {
     "01 03": (3, 0, 0, 0),
@@ -197,6 +258,7 @@ RECORDS = {
     "48 0B": (11, 0, 0, 0),
     "49 3F": (63, 0, 0, 0),
     "4A 07": (7, 0, 0, 0),
+    "4B 07 3F 3E": (7, 63, 62, 0),
 }
 EVENTS = {
     "50 3F": (63, 0, 0, 0),
@@ -264,13 +326,13 @@ TABLES_A = BookTables(
 # A record of every kind; block 0 has no steps.
 BOOK_OF_ALL = bytes.fromhex(
     "01 00  11 0F  12 00 0E  10  20 01 0D 02 01 00 00 00  30 0C  30 0B  40 07 78 56 34 12  41 06 00  42 05 01  43 01 02 03"
-    "44 04 01 02  45 03 04  46 02 05  47 01 0F  48 0E  49 01  4A 07"
+    "44 04 01 02  45 03 04  46 02 05  47 01 0F  48 0E  49 01  4A 07  4B 06 01 00"
 )
 TABLES_OF_ALL = BookTables(
     c=0,
     shapes=((17, 15, 0), (18, 0, 14), (16, 0, 0)),
     cells=((1, 13, 2, 1),),
-    blocks=((12, 0), (11, 11)),
+    blocks=((12, 0), (11, 12)),
     steps=(
         (64, 7, 0, 0, 0x12345678),
         (65, 6, 0, 0, 0),
@@ -283,6 +345,7 @@ TABLES_OF_ALL = BookTables(
         (72, 14, 0, 0, 0),
         (73, 1, 0, 0, 0),
         (74, 7, 0, 0, 0),
+        (75, 6, 1, 0, 0),
     ),
 )
 
@@ -370,6 +433,7 @@ class Written(Refusing):
         self.refuses(2, 3, shapes=changed(TABLES_A.shapes, 1, kind=64))
         self.refuses(2, 19, steps=changed(TABLES_A.steps, 1, kind=16))
         self.refuses(2, 25, steps=changed(TABLES_A.steps, 2, kind=48))
+        self.refuses(2, 25, steps=changed(TABLES_A.steps, 2, kind=76))
 
     def test_3_is_where_no_block_stands(self):
         self.refuses(3, 14, blocks=(), steps=())
@@ -400,7 +464,7 @@ class Written(Refusing):
         section = FORMAT.split("\n## A book from tables\n")[1].split("\n## ")[0]
         table = section.split("\n| row | kind | x | y | z | number |\n")[1].split("\n\n")[0]
         shown = [[field.strip() for field in line.split("|")[2:-1]] for line in table.splitlines()[1:]]
-        self.assertEqual([int(kind) for kind, *_ in shown], [16, 17, 18, *range(64, 75)])
+        self.assertEqual([int(kind) for kind, *_ in shown], [16, 17, 18, *range(64, 76)])
         for kind, *uses in shown:
             for name, use in zip(("x", "y", "z", "number"), uses):
                 if use:
@@ -416,6 +480,8 @@ class Written(Refusing):
         self.refuses(6, 3, shapes=changed(TABLES_A.shapes, 1, x=1))
         self.refuses(6, 6, cells=changed(TABLES_A.cells, 0, shape=0))
         self.refuses(6, 16, steps=changed(TABLES_A.steps, 0, y=1))
+        for blocks in ((1, 0), (0, 1), (1, 1), (255, 255)):
+            self.refuses(6, 25, steps=(*TABLES_A.steps[:2], StepRow(75, 7, *blocks)))
 
     def test_13_is_a_short_buffer(self):
         with mock.patch.object(xemdulba, "LONGEST_BOOK", 27):
@@ -502,7 +568,7 @@ class Words(unittest.TestCase):
 
     def test_the_sizes_of_a_writing_are_the_headers(self):
         sizes = {
-            "REQUEST": 3,
+            "REQUEST": 4,
             "SHAPE_ROW": xemdulba._SHAPE_ROW.size,
             "CELL_ROW": xemdulba._CELL_ROW.size,
             "BLOCK_ROW": xemdulba._BLOCK_ROW.size,

@@ -81,6 +81,7 @@ fn unnamed(kind: u8) -> &'static str {
         32 => "the shape is no cell shape, or the value names what does not exist",
         65 => "the cell does not exist",
         68 => "the shape is no cell shape",
+        75 => "a block does not exist",
         _ => "the block does not exist",
     }
 }

@@ -107,6 +107,8 @@ const BY: Part = ("by", "by ", First);
 const TRUST: Part = ("trust", ", trust ", Second);
 const CELL: Part = ("cell", ", cell ", Second);
 const BLOCK: Part = ("block", ", block ", Second);
+const FIRST_BLOCK: Part = ("first_block", ", block ", Second);
+const SECOND_BLOCK: Part = ("second_block", ", block ", Third);
 const SHAPE: Part = ("shape", ", shape ", Second);
 const VALUE: Part = ("value", ", ", Value);
 
@@ -151,6 +153,7 @@ pub static BOOK: Layout = Layout {
         form(72, Step, "lower", &[("label", "", First)]),
         form(73, Step, "start", &[("block", "block ", First)]),
         form(74, Step, "exec", &[W]),
+        form(75, Step, "choose", &[R, FIRST_BLOCK, SECOND_BLOCK]),
     ],
 };
 
@@ -212,5 +215,6 @@ mod tests {
             ["plain shape", "code shape", "cell shape"]
         );
         assert_eq!([32, 48, 70].map(name), ["cell", "block", "write"]);
+        assert_eq!([75, 76].map(name), ["choose", ""]);
     }
 }

@@ -177,7 +177,7 @@ class BlockRow(NamedTuple):
 
 
 class StepRow(NamedTuple):
-    """A step: its kind, 64 to 74, its fields of one byte in their order, and the number of put. What the kind does not have is 0."""
+    """A step: its kind, 64 to 75, its fields of one byte in their order, and the number of put. What the kind does not have is 0."""
 
     kind: int
     x: int = 0

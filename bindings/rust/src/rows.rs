@@ -46,7 +46,7 @@ pub struct BlockRow {
     pub steps: u32,
 }
 
-/// A step: its kind, 64 to 74, and its fields of one byte in their order. Those that the kind does
+/// A step: its kind, 64 to 75, and its fields of one byte in their order. Those that the kind does
 /// not have are 0.
 #[derive(Clone, Copy, Debug, Default, PartialEq, Eq, Hash)]
 pub struct StepRow {

@@ -9,7 +9,7 @@ use xemdulba::{event, record, Fields};
 type Sample = (&'static [u8], [u8; 3], u32);
 
 /// A record of each kind.
-const RECORDS: [Sample; 17] = [
+const RECORDS: [Sample; 18] = [
     (&[0x01, 0x03], [3, 0, 0], 0),
     (&[0x10], [0, 0, 0], 0),
     (&[0x11, 0x0C], [12, 0, 0], 0),
@@ -35,6 +35,7 @@ const RECORDS: [Sample; 17] = [
     (&[0x48, 0x0B], [11, 0, 0], 0),
     (&[0x49, 0x3F], [63, 0, 0], 0),
     (&[0x4A, 0x07], [7, 0, 0], 0),
+    (&[0x4B, 0x07, 0x3F, 0x3E], [7, 63, 62], 0),
 ];
 
 /// An event of each kind.

@@ -61,7 +61,7 @@ fn the_version_is_the_headers() {
 #[test]
 fn the_sizes_of_a_writing_are_the_headers() {
     for (name, size) in [
-        ("REQUEST", 3),
+        ("REQUEST", 4),
         ("SHAPE_ROW", SHAPE_ROW),
         ("CELL_ROW", CELL_ROW),
         ("BLOCK_ROW", BLOCK_ROW),

@@ -96,9 +96,10 @@ fn every_record_is_written_again() {
     book.extend([
         0x46, 0x02, 0x05, 0x47, 0x01, 0x0F, 0x48, 0x0E, 0x49, 0x01, 0x4A, 0x07,
     ]);
+    book.extend([0x4B, 0x06, 0x01, 0x00]);
     let tables = tables(&book).unwrap();
     let steps = tables.blocks.iter().map(|block| block.steps);
-    assert_eq!(steps.collect::<Vec<_>>(), [0, 11]);
+    assert_eq!(steps.collect::<Vec<_>>(), [0, 12]);
     assert_eq!(tables.steps[0].number, 0x1234_5678);
     assert_eq!(write(&tables), Ok(book));
 }
@@ -134,6 +135,36 @@ fn each_refusal_has_its_place() {
         (5, 25)
     );
     assert_eq!(refused(&a_with(|tables| tables.steps[0].y = 1)), (6, 16));
+}
+
+/// Book A's tables with one more step, a choose of these fields. Its record would stand at 28.
+fn a_with_choose(x: u8, y: u8, z: u8, number: u32) -> BookTables {
+    let kind = 75;
+    a_with(|tables| {
+        tables.blocks[0].steps = 4;
+        tables.steps.push(StepRow {
+            kind,
+            x,
+            y,
+            z,
+            number,
+        });
+    })
+}
+
+#[test]
+fn choose_is_written_from_its_row() {
+    let tables = a_with_choose(7, 0, 0, 0);
+    let book = [BOOK_A, &[0x4B, 0x07, 0x00, 0x00]].concat();
+    assert_eq!(write(&tables), Ok(book.clone()));
+    assert_eq!(xemdulba::tables(&book), Ok(tables));
+    assert_eq!(refused(&a_with_choose(8, 0, 0, 0)), (5, 28));
+    assert_eq!(refused(&a_with_choose(7, 0, 0, 1)), (5, 28));
+    for [first, second] in [[1, 0], [0, 1], [1, 1], [255, 0], [0, 255]] {
+        assert_eq!(refused(&a_with_choose(7, first, second, 0)), (6, 28));
+    }
+    let next = a_with(|tables| tables.steps[2].kind = 76);
+    assert_eq!(refused(&next), (2, 25));
 }
 
 /// What the typing rules refuse is written.

@@ -46,7 +46,7 @@ fn bytes() {
 fn every_kind_of_record() {
     let book = "01 02  10  11 0F  12 01 0E  20 02 0D 01 00 00 00 00  20 02 0D 02 00 01 00 00
         20 02 0D 07 09 00 00 00  30 0C  40 01 FF FF FF FF  41 02 03  42 04 05  43 06 07 08
-        44 01 02 03  45 04 05  46 06 07  47 01 0A  48 0B  49 0C  4A 02";
+        44 01 02 03  45 04 05  46 06 07  47 01 0A  48 0B  49 0C  4A 02  4B 03 04 05";
     let expected = [
         "C          2",
         "shape 0    plain",
@@ -67,6 +67,7 @@ fn every_kind_of_record() {
         "  step 8   lower   11",
         "  step 9   start   block 12",
         "  step 10  exec    r2",
+        "  step 11  choose  r3, block 4, block 5",
     ];
     let lines = listed(&BOOK, book, (0, 0));
     let words: Vec<&str> = lines.iter().map(|line| &line[7..]).collect();
@@ -111,6 +112,10 @@ fn what_cannot_be_read() {
     assert_eq!(listed(&BOOK, "01 00 30 00 46 00", (2, 4))[2], cut);
     let unknown = "    2  kind 99  <- refused 2: no record has this kind";
     assert_eq!(listed(&BOOK, "01 00 63", (2, 2))[1], unknown);
+    let choose = "    4  kind 75 (choose)  <- refused 2: the book ends inside the record";
+    assert_eq!(listed(&BOOK, "01 00 30 00 4B 00 00", (2, 4))[2], choose);
+    let next = "    4  kind 76  <- refused 2: no record has this kind";
+    assert_eq!(listed(&BOOK, "01 00 30 00 4C 00 00 00", (2, 4))[2], next);
     let shape = "    2  kind 18 (cell shape)  <- refused 2: the book ends inside the record";
     assert_eq!(listed(&BOOK, "01 00 12", (2, 2))[1], shape);
     let cut = "    2  event 1    kind 81 (write)  <- refused 9: the list ends inside the event";
@@ -151,6 +156,10 @@ fn objects() {
     let fault = r#""w":0,"label":8,"refusal":8,"rule":"a step breaks its typing rule"}"#;
     let line = last_object(&BOOK, "30 00 47 00 08", Some((8, 2)));
     assert_eq!(line, [step, fault].concat());
+    let choose = r#"{"offset":2,"bytes":"4B 00 01 02","record":"step","number":0,"kind":"choose","#;
+    let fields = r#""r":0,"first_block":1,"second_block":2}"#;
+    let line = last_object(&BOOK, "30 00 4B 00 01 02", None);
+    assert_eq!(line, [choose, fields].concat());
     let cut = r#"{"offset":0,"bytes":"51 00","record":null,"number":0,"byte":81,"refusal":9,"#;
     let rule = r#""rule":"the list ends inside the event"}"#;
     let line = last_object(&LIST, "51 00", Some((9, 0)));

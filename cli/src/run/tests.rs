@@ -164,3 +164,27 @@ fn other_refusals_before_the_launch() {
         assert!(notes.starts_with("xemdulba: list: refused 9 at 2: "));
     }
 }
+
+/// Job 0 puts 1 into register 0 and chooses by it, which starts block 1; register 1 is 0, which
+/// starts block 2; and the name of a cell blocks it.
+#[test]
+fn choices() {
+    let cell = "10 12 00 09 20 01 09 00 05 00 00 00";
+    let steps = "40 00 01 00 00 00 4B 00 01 02 4B 01 01 02 41 01 00 4B 01 01 02";
+    let book = format!("01 03 {cell} 30 0C {steps} 30 0C 30 0D");
+    let (out, notes, status) = told(&book, &"50 00 ".repeat(5), false);
+    let lines: Vec<&str> = out.lines().filter(|line| !line.starts_with(' ')).collect();
+    let expected = [
+        "ran cells 1 jobs 3",
+        "answers 0 0 0 0 1",
+        "cell 0 shape 1 trust 9 label 9 plain 5 source 15",
+        "job 0 block 0 position 4 label 12 source 12",
+        "job 1 block 1 position 0 label 12 source 12",
+        "job 2 block 2 position 0 label 12 source 12",
+    ];
+    assert_eq!(lines, expected);
+    let note =
+        "xemdulba: book: check refuses this book: refused 8 at 33: a step breaks its typing \
+                rule: block 0, step 4: choose r1, block 1, block 2\n";
+    assert_eq!((notes.as_str(), status), (note, Status::Good));
+}

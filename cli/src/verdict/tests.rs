@@ -55,6 +55,8 @@ fn where_no_record_stands() {
     assert_eq!(said("01 00 09"), kind);
     let cut = "refused 2 at 2: the book ends inside the record: kind 48 (block)";
     assert_eq!(said("01 00 30"), cut);
+    let choose = "refused 2 at 16: the book ends inside the record: kind 75 (choose)";
+    assert_eq!(said(&with_steps("4B 00 00")), choose);
     let empty = "refused 3 at 0: the first record is missing: end of the book";
     assert_eq!(said(""), empty);
     assert_eq!(
@@ -108,6 +110,48 @@ fn fields() {
     );
     assert_eq!(rule(&with_steps("42 00 01")), "the block does not exist");
     assert_eq!(rule(&with_steps("49 01")), "the block does not exist");
+}
+
+/// The same, and block 1 of this bound behind it.
+fn with_block_1(steps: &str, bound: &str) -> String {
+    with_steps(&format!("{steps} 30 {bound}"))
+}
+
+#[test]
+fn choose_and_its_fields() {
+    let said = |steps| said(&with_block_1(steps, "0C"));
+    let accepted = "accepted shapes 2 cells 1 blocks 2 steps 1";
+    assert_eq!(said("4B 07 01 00"), accepted);
+    // A register that is too high comes before blocks that do not exist.
+    let above = "refused 5 at 16: a register is above 7: block 0, step 0: ";
+    for (step, words) in [
+        ("4B 08 01 00", "choose r8, block 1, block 0"),
+        ("4B FF 02 02", "choose r255, block 2, block 2"),
+    ] {
+        assert_eq!(said(step), [above, words].concat());
+    }
+    // The first block, the second, both.
+    let missing = "refused 6 at 16: a block does not exist: block 0, step 0: ";
+    for (step, words) in [
+        ("4B 07 02 01", "choose r7, block 2, block 1"),
+        ("4B 07 01 02", "choose r7, block 1, block 2"),
+        ("4B 07 FF 02", "choose r7, block 255, block 2"),
+    ] {
+        assert_eq!(said(step), [missing, words].concat());
+    }
+}
+
+/// P is 12. Either bound may be too low, and a cell's name is no number to choose by.
+#[test]
+fn choose_and_its_rule() {
+    for step in ["4B 00 01 00", "4B 00 00 01", "4B 00 01 01"] {
+        assert!(said(&with_block_1(step, "0C")).starts_with("accepted "));
+        let broken = rule(&with_block_1(step, "0B"));
+        assert_eq!(broken, "a step breaks its typing rule");
+    }
+    let name = "refused 8 at 19: a step breaks its typing rule: block 0, step 1: \
+                choose r0, block 1, block 0";
+    assert_eq!(said(&with_block_1("41 00 00 4B 00 01 00", "0C")), name);
 }
 
 #[test]

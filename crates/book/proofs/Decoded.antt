@@ -17,7 +17,7 @@ use Rattle.book.specs.declared.Value.{Value}
 use Rattle.book.specs.declared.Value.the-variants.{Plain, CellName, CodeName}
 use Rattle.book.specs.declared.Declared.{Declared}
 use Rattle.book.specs.declared.Step.{Step}
-use Rattle.book.specs.declared.Step.the-variants.{Put, Name, Code, Add, New, Read, Write, Relabel, Lower, Start, Exec}
+use Rattle.book.specs.declared.Step.the-variants.{Put, Name, Code, Add, New, Read, Write, Relabel, Lower, Start, Exec, Choose}
 use Rattle.book.specs.declared.StepAt.{StepAt}
 use Rattle.book.specs.declared.StepAt.the-variants.{NoStep, StepThere}
 use Rattle.book.specs.declared.CellAt.the-variants.{NoCell, CellThere}
@@ -91,24 +91,9 @@ module _ (s : List ℕ) (o x : ℕ) (ex : x ≡ byteAt s (o + 1)) where
   unfolding stepAt
   is-start h = simp (h, ex)
 
-  pub is-exec : (byteAt s o ≡ 64 → ⊥) → (byteAt s o ≡ 65 → ⊥) → (byteAt s o ≡ 66 → ⊥) → (byteAt s o ≡ 67 → ⊥) → (byteAt s o ≡ 68 → ⊥)
-      → (byteAt s o ≡ 69 → ⊥) → (byteAt s o ≡ 70 → ⊥) → (byteAt s o ≡ 71 → ⊥) → (byteAt s o ≡ 72 → ⊥) → (byteAt s o ≡ 73 → ⊥)
-      → Exec x ≡ stepAt s o
+  pub is-exec : byteAt s o ≡ 74 → Exec x ≡ stepAt s o
   unfolding stepAt
-  is-exec a b c d e f g h i j =
-      simp (
-        ne-eqb _ _ a,
-        ne-eqb _ _ b,
-        ne-eqb _ _ c,
-        ne-eqb _ _ d,
-        ne-eqb _ _ e,
-        ne-eqb _ _ f,
-        ne-eqb _ _ g,
-        ne-eqb _ _ h,
-        ne-eqb _ _ i,
-        ne-eqb _ _ j,
-        ex,
-      )
+  is-exec h = simp (h, ex)
 
   module _ (y : ℕ) (ey : y ≡ byteAt s (o + 2)) where
     pub is-name : byteAt s o ≡ 65 → Name x y ≡ stepAt s o
@@ -140,7 +125,35 @@ module _ (s : List ℕ) (o x : ℕ) (ex : x ≡ byteAt s (o + 1)) where
       unfolding stepAt
       is-new h = simp (h, ex, ey, ez)
 
-pub ruleset steps = (is-put, is-name, is-code, is-add, is-new, is-read, is-write, is-relabel, is-lower, is-start, is-exec)
+      pub is-choose : (byteAt s o ≡ 64 → ⊥) → (byteAt s o ≡ 65 → ⊥) → (byteAt s o ≡ 66 → ⊥) → (byteAt s o ≡ 67 → ⊥) → (byteAt s o ≡ 68 → ⊥)
+          → (byteAt s o ≡ 69 → ⊥) → (byteAt s o ≡ 70 → ⊥) → (byteAt s o ≡ 71 → ⊥) → (byteAt s o ≡ 72 → ⊥) → (byteAt s o ≡ 73 → ⊥)
+          → (byteAt s o ≡ 74 → ⊥) → Choose x y z ≡ stepAt s o
+      unfolding stepAt
+      is-choose a b c d e f g h i j k =
+          simp (
+            ne-eqb _ _ a,
+            ne-eqb _ _ b,
+            ne-eqb _ _ c,
+            ne-eqb _ _ d,
+            ne-eqb _ _ e,
+            ne-eqb _ _ f,
+            ne-eqb _ _ g,
+            ne-eqb _ _ h,
+            ne-eqb _ _ i,
+            ne-eqb _ _ j,
+            ne-eqb _ _ k,
+            ex,
+            ey,
+            ez,
+          )
+
+      -- past exec only choose is left
+      pub choose-past : 74 < byteAt s o → Choose x y z ≡ stepAt s o
+      choose-past l =
+          is-choose (λ e. omega arith) (λ e. omega arith) (λ e. omega arith) (λ e. omega arith) (λ e. omega arith) (λ e. omega arith) (λ e. omega arith)
+          (λ e. omega arith) (λ e. omega arith) (λ e. omega arith) (λ e. omega arith)
+
+pub ruleset steps = (is-put, is-name, is-code, is-add, is-new, is-read, is-write, is-relabel, is-lower, is-start, is-exec, is-choose)
 
 -- whether a whole record of group g stands at o; d is the group that was found there, p the offset past the record
 module _ (s : List ℕ) (g o : ℕ) where
@@ -239,11 +252,11 @@ module _ (s : List ℕ) (o e : ℕ) (q : e ≡ stepEnd s o) where
       go false h = let n : e ≡ 0 = simp h at q in absurd (z n)
 
   -- its kind is a step's
-  pub step-kind : (e ≡ 0 → ⊥) → (64 ≤ byteAt s o) × (byteAt s o ≤ 74)
+  pub step-kind : (e ≡ 0 → ⊥) → (64 ≤ byteAt s o) × (byteAt s o ≤ 75)
   unfolding stepEnd both
   step-kind z = go (ltb o (length s)) refl (inGroup s 5 o) refl
     where
-      go : (a : Bool) → ltb o (length s) ≡ a → (b : Bool) → inGroup s 5 o ≡ b → (64 ≤ byteAt s o) × (byteAt s o ≤ 74)
+      go : (a : Bool) → ltb o (length s) ≡ a → (b : Bool) → inGroup s 5 o ≡ b → (64 ≤ byteAt s o) × (byteAt s o ≤ 75)
       go true h true g = is-step (byteAt s o) (eqb-true _ _ g)
       go true h false g = let n : e ≡ 0 = simp (h, g) at q in absurd (z n)
       go false h b g = let n : e ≡ 0 = simp h at q in absurd (z n)

@@ -65,10 +65,10 @@ module _ (k : ℕ) where
   unfolding group
   is-block e = eqb→eq k 48 (kind-of 4 (omega arith) (λ k. eqb k 48) tt k e)
 
-  pub is-step : group k ≡ 5 → (64 ≤ k) × (k ≤ 74)
+  pub is-step : group k ≡ 5 → (64 ≤ k) × (k ≤ 75)
   unfolding group
   is-step e =
-      (leb→le 64 k (kind-of 5 (omega arith) (λ k. leb 64 k) tt k e), leb→le k 74 (kind-of 5 (omega arith) (λ k. leb k 74) tt k e))
+      (leb→le 64 k (kind-of 5 (omega arith) (λ k. leb 64 k) tt k e), leb→le k 75 (kind-of 5 (omega arith) (λ k. leb k 75) tt k e))
 
   -- a block's record has two bytes
   pub block-span : group k ≡ 4 → span k ≡ 2
@@ -92,13 +92,13 @@ module _ (k : ℕ) where
     unfolding group
     of-shape = between group 16 18 2 tt k h
 
-    pub of-step : 64 ≤ k → k ≤ 74 → 5 ≡ group k
+    pub of-step : 64 ≤ k → k ≤ 75 → 5 ≡ group k
     unfolding group
-    of-step = between group 64 74 5 tt k h
+    of-step = between group 64 75 5 tt k h
 
-    pub of-above : 64 ≤ k → 74 < k → 0 ≡ group k
+    pub of-above : 64 ≤ k → 75 < k → 0 ≡ group k
     unfolding group
-    of-above a b = between group 75 255 0 tt k h b (omega arith)
+    of-above a b = between group 76 255 0 tt k h b (omega arith)
 
     pub of-between : k < 64 → (k ≡ 48 → ⊥) → (k ≡ 32 → ⊥) → 16 ≤ k → 18 < k → 0 ≡ group k
     unfolding group

@@ -9,7 +9,7 @@ use mathlib.Core.List.{List, map}
 use Prim.Native.Nat.{ℕ, _+_, _-_, _≤_, _<_}
 use lib.Dec.{leb, ltb, eqb}
 use lib.ListN.{length, length-map}
-use borrow.Author.Tests.{eq-eqb, ne-eqb}
+use borrow.Author.Tests.{eq-eqb, ne-eqb, lt-ltb, le-ltb}
 use Rattle.book.specs.declared.Fault.{Fault}
 use Rattle.book.specs.declared.Fault.the-variants.{Nowhere, At}
 use Rattle.book.specs.declared.Outline.{Outline}
@@ -18,6 +18,7 @@ use Rattle.book.specs.declared.Value.{Value}
 use Rattle.book.specs.declared.Value.the-variants.{Plain, CellName, CodeName}
 use Rattle.book.specs.declared.Declared.{Declared}
 use Rattle.book.specs.declared.Step.{Step}
+use Rattle.book.specs.declared.Step.the-variants.{Choose}
 use Rattle.book.specs.Control.{both}
 use Rattle.book.specs.Kinds.{group}
 use Rattle.book.specs.Records.{byteAt, next, recordsFrom}
@@ -59,6 +60,15 @@ module _ (f : ℕ → Bool) (cells blocks : ℕ) where
   module _ (p : Step) where
     pub step-is : (q : Step) (b : Bool) → p ≡ q → b ≡ stepNamed f cells blocks q → b ≡ stepNamed f cells blocks p
     step-is q b d e = e ∙ simp d
+
+    module _ (r i j : ℕ) (d : p ≡ Choose r i j) where
+      pub step-first : blocks ≤ i → ltb i blocks ≡ stepNamed f cells blocks p
+      unfolding stepNamed both
+      step-first h = simp (d, le-ltb _ _ h)
+
+      pub step-second : i < blocks → ltb j blocks ≡ stepNamed f cells blocks p
+      unfolding stepNamed both
+      step-second h = simp (d, lt-ltb _ _ h)
 
   -- a record
   module _ (s : List ℕ) (n o : ℕ) where

@@ -23,7 +23,7 @@ use Rattle.book.proofs.Spans.{uncut}
 use Rattle.book.proofs.Records.{records-end, records-more, walk}
 use Rattle.book.proofs.Steps.{steps-end, steps-none, steps-more, end-more, end-none}
 use Rattle.book.proofs.Past.{past-steps}
-use Rattle.book.proofs.Decoded.{is-put, is-name, is-code, is-add, is-new, is-read, is-write, is-relabel, is-lower, is-start}
+use Rattle.book.proofs.Decoded.{is-put, is-name, is-code, is-add, is-new, is-read, is-write, is-relabel, is-lower, is-start, is-exec, choose-past}
 
 -- a number that is at least a is a or more
 pub up : {X : Type 0} (k a : ℕ) → a ≤ k → (k ≡ a → X) → (a + 1 ≤ k → X) → X
@@ -93,8 +93,15 @@ module _ (w s : List ℕ) (x o : ℕ) (e : byteAt w x ≡ byteAt s o) (f : (i : 
   same-start h = sym (is-start w x _ (same 73 1 h (omega arith)) (e ∙ h)) ∙ is-start s o _ refl h
 
   same-exec : byteAt s o ≡ 74 → stepAt w x ≡ stepAt s o
-  unfolding span stepAt
-  same-exec h = let a = same 74 1 h (omega arith) in simp (e, h, a)
+  unfolding span
+  same-exec h = sym (is-exec w x _ (same 74 1 h (omega arith)) (e ∙ h)) ∙ is-exec s o _ refl h
+
+  same-choose : byteAt s o ≡ 75 → stepAt w x ≡ stepAt s o
+  unfolding span
+  same-choose h =
+      let p : 74 < byteAt w x = omega arith in
+      sym (choose-past w x _ (same 75 1 h (omega arith)) _ (same 75 2 h (omega arith)) _ (same 75 3 h (omega arith)) p)
+      ∙ choose-past s o _ refl _ refl _ refl (omega arith)
 
   pub step-same : group (byteAt s o) ≡ 5 → stepAt w x ≡ stepAt s o
   step-same g =
@@ -102,7 +109,7 @@ module _ (w s : List ℕ) (x o : ℕ) (e : byteAt w x ≡ byteAt s o) (f : (i : 
       let r = is-step k g in
       up k 64 (r .0) same-put (λ l. up k 65 l same-name (λ l. up k 66 l same-code (λ l. up k 67 l same-add (λ l. up k 68 l same-new
       (λ l. up k 69 l same-read (λ l. up k 70 l same-write (λ l. up k 71 l same-relabel (λ l. up k 72 l same-lower
-      (λ l. up k 73 l same-start (λ l. same-exec (omega (arith, r .1))))))))))))
+      (λ l. up k 73 l same-start (λ l. up k 74 l same-exec (λ l. same-choose (omega (arith, r .1)))))))))))))
 
 -- from x of the part on stand the steps from a + x of the book on
 pub record Parted (s w : List ℕ) (a x : ℕ) : Type 0 where

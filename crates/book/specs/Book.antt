@@ -14,9 +14,9 @@ use Rattle.book.specs.declared.Value.{Value}
 use Rattle.book.specs.declared.Value.the-variants.{Plain, CellName, CodeName}
 use Rattle.book.specs.declared.Declared.{Declared}
 use Rattle.book.specs.declared.Step.{Step}
-use Rattle.book.specs.declared.Step.the-variants.{Put, Name, Code, Add, New, Read, Write, Relabel, Lower, Start, Exec}
+use Rattle.book.specs.declared.Step.the-variants.{Put, Name, Code, Add, New, Read, Write, Relabel, Lower, Start, Exec, Choose}
 use Rattle.book.specs.Numbers.{plainShapeKind, codeShapeKind, cellShapeKind, putKind, nameKind, codeKind, addKind, newKind, readKind, writeKind, relabelKind}
-use Rattle.book.specs.Numbers.{lowerKind, startKind, shapeGroup, cellGroup, blockGroup, stepGroup, plainValue, cellValue, codeValue}
+use Rattle.book.specs.Numbers.{lowerKind, startKind, execKind, shapeGroup, cellGroup, blockGroup, stepGroup, plainValue, cellValue, codeValue}
 use Rattle.book.specs.Control.{if_then_else_, those, while}
 use Rattle.book.specs.Records.{byteAt, numberAt, records, recordsFrom, inGroup}
 
@@ -65,7 +65,7 @@ declaredAt s o =
     record { shape = byteAt s (o + 1); label = label (byteAt s (o + 2)); value = valueOf (byteAt s (o + 3)) (numberAt s (o + 4)) }
 
 -- "64 put r, number; 65 name r, cell; 66 code r, block; 67 add r, a, b; 68 new r, shape, a; 69 read r, w; 70 write w, a; 71 relabel
--- w, label; 72 lower label; 73 start block; 74 exec w"
+-- w, label; 72 lower label; 73 start block; 74 exec w". 02, Four: "Kind 75, choose r, block, block"
 unfoldable pub stepAt : List ℕ → ℕ → Step
 stepAt s o =
     let k = byteAt s o in
@@ -82,7 +82,8 @@ stepAt s o =
     else if eqb k relabelKind then Relabel x (label y)
     else if eqb k lowerKind then Lower (label x)
     else if eqb k startKind then Start x
-    else Exec x
+    else if eqb k execKind then Exec x
+    else Choose x y z
 
 pub record Block : Type 0 where
   pub bound : Label

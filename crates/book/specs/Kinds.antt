@@ -10,7 +10,7 @@ use lib.ListN.{length}
 use lib.Dec.{eqb}
 use Rattle.book.specs.Control.{if_then_else_}
 use Rattle.book.specs.Numbers.{cKind, plainShapeKind, codeShapeKind, cellShapeKind, cellKind, blockKind, putKind, nameKind, codeKind, addKind, newKind, readKind}
-use Rattle.book.specs.Numbers.{writeKind, relabelKind, lowerKind, startKind, execKind}
+use Rattle.book.specs.Numbers.{writeKind, relabelKind, lowerKind, startKind, execKind, chooseKind}
 use Rattle.book.specs.Numbers.{noGroup, cGroup, shapeGroup, cellGroup, blockGroup, stepGroup}
 use Rattle.book.specs.Numbers.{maxLabel, maxC, maxRegister, maxValueKind, anyByte, number}
 
@@ -42,6 +42,7 @@ layouts =
     ∷ layout lowerKind stepGroup (maxLabel ∷ [])
     ∷ layout startKind stepGroup (anyByte ∷ [])
     ∷ layout execKind stepGroup (maxRegister ∷ [])
+    ∷ layout chooseKind stepGroup (maxRegister ∷ anyByte ∷ anyByte ∷ [])
     ∷ []
 
 -- the layout of a kind; what is no kind is of no group, and has no fields

@@ -1,5 +1,5 @@
 -- The numbers of the format: 01, "The job book".
---     cKind, .., execKind              the kinds of record
+--     cKind, .., chooseKind            the kinds of record
 --     noGroup, .., stepGroup           the groups
 --     plainValue, .., codeValue        the kinds of value
 --     maxLabel, .., anyByte, number    the fields, each by its largest value
@@ -60,6 +60,10 @@ startKind = 73
 
 abbrev pub execKind : ℕ
 execKind = 74
+
+-- 02, Four: "Kind 75, choose r, block, block"
+abbrev pub chooseKind : ℕ
+chooseKind = 75
 
 -- "Groups stand in this order: C, shapes, cells, blocks", so they are compared; the steps are one more, and what is no kind is of none
 abbrev pub noGroup : ℕ

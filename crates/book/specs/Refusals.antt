@@ -22,7 +22,7 @@ use Rattle.book.specs.Numbers.{cellShapeKind, noGroup, cGroup, shapeGrou
 use Rattle.book.specs.Control.{if_then_else_, both, either, sweep, first}
 use Rattle.book.specs.Kinds.{limits, group}
 use Rattle.book.specs.Records.{byteAt, records, cut, inGroup}
-use Rattle.book.specs.Parts.{Reference, toNothing, toCell, toBlock, toCellShape, partsOf}
+use Rattle.book.specs.Parts.{Reference, toNothing, toCell, toBlock, toCellShape, toBlocks, partsOf}
 use Rattle.book.specs.Book.{Book, parse, declaredAt, stepAt}
 
 -- 2: "A kind is none of the above, or the book ends inside a body."
@@ -94,6 +94,7 @@ module _ (isCellShape : ℕ → Bool) (cells blocks : ℕ) where
   refers (toCell k) = ltb k cells
   refers (toBlock b) = ltb b blocks
   refers (toCellShape i) = isCellShape i
+  refers (toBlocks a b) = both (ltb a blocks) (ltb b blocks)
 
   unfoldable pub stepNamed : Step → Bool
   stepNamed p = refers (partsOf p .names)

@@ -32,3 +32,5 @@ pub const LOWER: u8 = 72;
 pub const START: u8 = 73;
 
 pub const EXEC: u8 = 74;
+
+pub const CHOOSE: u8 = 75;

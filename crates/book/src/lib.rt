@@ -23,6 +23,7 @@ pub enum Step {
     Lower(Label),
     Start(u8),
     Exec(u8),
+    Choose(u8, u8, u8),
 }
 
 // A shape: 16 plain, 17 code of a bound, 18 cell of a content shape and a trust. What its kind does not have is 0.

@@ -117,7 +117,8 @@ pub fn decode_step(s: &[u8], o: usize) -> Step
         kind::RELABEL => Step::Relabel(x, Label(y)),
         kind::LOWER => Step::Lower(Label(x)),
         kind::START => Step::Start(x),
-        _ => Step::Exec(x),
+        kind::EXEC => Step::Exec(x),
+        _ => Step::Choose(x, y, z),
     }
 }
 

@@ -47,6 +47,7 @@ fn step_named(step: Step, shapes: &[u8], cells: usize, blocks: usize) -> bool
         Step::Lower(_) => true,
         Step::Start(b) => (b as usize) < blocks,
         Step::Exec(_) => true,
+        Step::Choose(_, a, b) => (a as usize) < blocks && (b as usize) < blocks,
     }
 }
 

@@ -145,7 +145,7 @@ pub fn count_fault(s: &[u8]) -> Fault
 fn first_limit(kind: u8) -> u8
     ensures { λ r. ⌜ r ≡ limit kind 0 ⌝ }
 {
-    if kind::EXEC < kind {
+    if kind::CHOOSE < kind {
         return limit::ANY;
     }
     if kind::EXEC <= kind {

@@ -1,5 +1,5 @@
 -- The books, as bytes, by which each place of the rules and of the machine is shown to be needed. C is 3.
---     plain, .., exec, book     records; a book of them
+--     plain, .., choose, book   records; a book of them
 --     spoil, .., held           what several places have in common
 -- Assumes nothing.
 use Prim.Native.Nat.{ℕ, zero, suc}
@@ -56,6 +56,9 @@ start b = 0x49 ∷ b ∷ []
 
 abbrev pub exec : ℕ → List ℕ
 exec w = 0x4A ∷ w ∷ []
+
+abbrev pub choose : ℕ → ℕ → ℕ → List ℕ
+choose r a b = 0x4B ∷ r ∷ a ∷ b ∷ []
 
 abbrev pub joined : List (List ℕ) → List ℕ
 joined [] = []

@@ -6,7 +6,7 @@ use mathlib.Core.Path.{_≡_, refl, ap, _∙_}
 use mathlib.Core.List.{List, [], _∷_}
 use lib.ListN.{getElem?}
 use Rattle.book.specs.declared.Step.{Step}
-use Rattle.book.specs.declared.Step.the-variants.{Put, Name, Code, Add, New, Read, Write, Relabel, Lower, Start, Exec}
+use Rattle.book.specs.declared.Step.the-variants.{Put, Name, Code, Add, New, Read, Write, Relabel, Lower, Start, Exec, Choose}
 use Rattle.book.specs.Control.{onSome}
 use Rattle.book.specs.Book.{Book}
 use Rattle.machine.specs.declared.Event.{Event}
@@ -31,6 +31,7 @@ turn-by s j (Relabel w o) = refl
 turn-by s j (Lower q) = refl
 turn-by s j (Start b) = refl
 turn-by s j (Exec w) = refl
+turn-by s j (Choose r a b) = refl
 
 module _ (K : Book) where
   pub outcome-by : (s : State History) (e : Event) → outcomeBy "" K s e ≡ outcomeOf lists tableSize K s e

@@ -13,7 +13,7 @@ use Rattle.labels.specs.Labels.{isMet}
 use Rattle.book.specs.declared.Shape.{Shape}
 use Rattle.book.specs.declared.Declared.{Declared}
 use Rattle.book.specs.declared.Step.{Step}
-use Rattle.book.specs.declared.Step.the-variants.{Put, Name, Code, Add, New, Read, Write, Relabel, Lower, Start, Exec}
+use Rattle.book.specs.declared.Step.the-variants.{Put, Name, Code, Add, New, Read, Write, Relabel, Lower, Start, Exec, Choose}
 use Rattle.book.specs.Control.{if_then_else_, both, either}
 use Rattle.book.specs.Book.{Block, parse}
 use Rattle.book.proofs.Every.{All}
@@ -72,6 +72,7 @@ step-by B t (Lower q) = go (R.isLow (B .c) (t .p))
     go false = refl
 step-by B t (Start b) = refl
 step-by B t (Exec w) = refl
+step-by B t (Choose r a b) = refl
 
 pub walk-by : (B : View) (ps : List Step) (x : Typed) → walkBy "" B ps x ≡ passesAll B ps x
 unfolding walkBy

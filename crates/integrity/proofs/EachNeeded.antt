@@ -29,14 +29,14 @@ use Rattle.machine.specs.declared.Event.{Event}
 use Rattle.machine.specs.declared.Event.the-variants.{WriteBy, RelabelBy, NewBy, ExecBy, StartBy}
 use Rattle.machine.specs.Control.{given, onPlain, onCell, onCode}
 use Rattle.machine.specs.Acts.{execLabel, writeAct, relabelAct, newAct, startAct, execAct}
-use Rattle.machine.specs.Steps.{summable, addStep, readStep, lowerStep, turnOf}
+use Rattle.machine.specs.Steps.{summable, chosen, addStep, readStep, lowerStep, turnOf}
 use Rattle.machine.specs.Histories.{lists}
 use Rattle.machine.specs.Events.{tableSize, firstBound, freshState, landed, turnLanded, outcomeOf, stateAfter}
 use Rattle.integrity.specs.Weakened.{alikeBy, fitsBy, declaredBy, stepRuleBy, walkBy, every, acceptedBy, Needed}
 use Rattle.integrity.specs.Loosened as L
 use Rattle.integrity.specs.Loosened.{turnBy, outcomeBy, stateBy, NeededThere}
 use Rattle.integrity.specs.EachNeeded.{EachNeeded, LaunchNeeded}
-use Rattle.integrity.proofs.Books.{plain, code, cell, declare, block, name, codeOf, add, new, read, write, relabel, lowerTo, start, exec}
+use Rattle.integrity.proofs.Books.{plain, code, cell, declare, block, put, name, codeOf, add, new, read, write, relabel, lowerTo, start, exec, choose}
 use Rattle.integrity.proofs.Books.{book, spoil, steps, codeBelow, codeAsLarger, namedAsTrusted, readLow, relabelled, made, madeLowered, loweredLow, held}
 use Rattle.integrity.proofs.Tested.{cellHolds, jobHolds, sentencesHold, breaks}
 
@@ -87,7 +87,7 @@ needed-there bytes events shapes cells blocks steps accepted e =
 pub each-needed : EachNeeded
 unfolding lower normal capped both either valueOf valueNamed viewOf onSome alikeIn alike knownOf fits knownValue declaredOk breaksUnless stuckUnless R.onKnownCell R.onKnownCode
     isPlainly fresh known R.lowerRule R.startable plainOrLow holds lowRule highRule stepRule given onPlain onCell onCode execLabel writeAct relabelAct newAct startAct
-    execAct summable addStep readStep lowerStep turnOf landed turnLanded outcomeOf stateAfter alikeBy fitsBy declaredBy stepRuleBy walkBy every acceptedBy
+    execAct summable chosen addStep readStep lowerStep turnOf landed turnLanded outcomeOf stateAfter alikeBy fitsBy declaredBy stepRuleBy walkBy every acceptedBy
     L.writeActBy L.relabelActBy L.execActBy L.lowerStepBy turnBy outcomeBy stateBy cellHolds jobHolds sentencesHold those while sweep span limits group
     numberAt cutBy offsetsIn offsetsBy groupOf stepsFrom shapeAt declaredAt stepAt blockAt parse cutFault inOrder misplaced orderFault counted tooMany
     beyond countFault above outOfRange rangeFault cellNamed stepNamed dangling dangles nameFault orRefuse unreadable stepCount fault cellFault orThen
@@ -262,6 +262,14 @@ each-needed =
             start-bound =
                 needed (book (plain ∷ cell 0 12 ∷ declare 1 12 plainValue 5 ∷ block 12 ∷ start 1 ∷ spoil ∷ []))
                 (steps 1 0 (steps 2 1 [])) 8 16 refl;
+            -- Job 0, at 12, chooses block 1, of bound 3, by a number that is not 0.
+            choose-first =
+                needed (book (plain ∷ cell 0 12 ∷ declare 1 12 plainValue 5 ∷ block 12 ∷ put 0 7 ∷ choose 0 1 0 ∷ spoil ∷ []))
+                (steps 2 0 (steps 2 1 [])) 8 22 refl;
+            -- The same by 0.
+            choose-second =
+                needed (book (plain ∷ cell 0 12 ∷ declare 1 12 plainValue 5 ∷ block 12 ∷ choose 0 0 1 ∷ spoil ∷ []))
+                (steps 1 0 (steps 2 1 [])) 8 16 refl;
           };
       machine =
           record {
@@ -300,6 +308,12 @@ each-needed =
             exec-lower =
                 needed-there (book (code 12 ∷ cell 0 0 ∷ declare 1 12 codeValue 0 ∷ block 12 ∷ []))
                 (ExecBy (label 3) 0 ∷ []) 2 1 1 0 refl refl;
+            -- Job 0, at 12, starts a job at 15 whose history has 12.
+            choose-label = needed-there (book (block 12 ∷ choose 0 0 0 ∷ [])) (steps 1 0 []) 0 0 1 1 refl refl;
+            -- An outsider writes 7 into cell 0. Job 0, at 12, reads it and chooses by it: a job at 12 whose history has 3.
+            choose-history =
+                needed-there (book (plain ∷ cell 0 0 ∷ declare 1 0 plainValue 0 ∷ block 12 ∷ name 0 0 ∷ read 0 0 ∷ choose 0 1 1 ∷ block 12 ∷ []))
+                (WriteBy (label 3) 0 0 7 ∷ steps 3 0 []) 2 1 2 3 refl refl;
           };
     }
 
@@ -308,7 +322,7 @@ each-needed =
 pub launch-needed : LaunchNeeded
 unfolding lower normal capped both either valueOf valueNamed viewOf onSome alikeIn alike knownOf fits knownValue declaredOk breaksUnless stuckUnless R.onKnownCell R.onKnownCode
     isPlainly fresh known R.lowerRule R.startable plainOrLow holds lowRule highRule stepRule given onPlain onCell onCode execLabel writeAct relabelAct newAct startAct
-    execAct summable addStep readStep lowerStep turnOf landed turnLanded outcomeOf stateAfter alikeBy fitsBy declaredBy stepRuleBy walkBy every acceptedBy
+    execAct summable chosen addStep readStep lowerStep turnOf landed turnLanded outcomeOf stateAfter alikeBy fitsBy declaredBy stepRuleBy walkBy every acceptedBy
     L.writeActBy L.relabelActBy L.execActBy L.lowerStepBy turnBy outcomeBy stateBy cellHolds jobHolds sentencesHold those while sweep span limits group
     numberAt cutBy offsetsIn offsetsBy groupOf stepsFrom shapeAt declaredAt stepAt blockAt parse cutFault inOrder misplaced orderFault counted tooMany
     beyond countFault above outOfRange rangeFault cellNamed stepNamed dangling dangles nameFault orRefuse unreadable stepCount fault cellFault orThen

@@ -21,11 +21,13 @@ use Rattle.typing.specs.declared.State as T
 use Rattle.typing.specs.Shapes.{isCellShape, contentOf, countedTrust, isHighTrust, knownOf}
 use Rattle.typing.specs.Rules.{passes, known, isLow, holds, used}
 use Rattle.typing.specs.Rules as R
+use Rattle.machine.specs.Control.{onPlain}
 use Rattle.machine.specs.Histories.{sources}
 use Rattle.machine.specs.States.{Cell, Job, State}
 use Rattle.machine.specs.Acts.{keep, create, execLabel, freshJob, acted, writeAct, relabelAct, newAct, startAct, execAct}
-use Rattle.machine.specs.Steps.{register, gets, giving, moved, through, addStep, readStep, lowerStep}
+use Rattle.machine.specs.Steps.{chosen, register, gets, giving, stay, moved, through, addStep, readStep, lowerStep}
 use Rattle.machine.specs.Events.{blockOf}
+use Rattle.machine.proofs.Cases.{chosen-both}
 use Rattle.integrity.proofs.Booleans.{both-true, either-second, not-false}
 use Rattle.integrity.proofs.Trees.{Grounded, code, tree-cell}
 use Rattle.integrity.proofs.Entries.{All2, all2-map}
@@ -233,6 +235,15 @@ module _ (K : Book) (size : ℕ) (s : State Label) (v : Invariant K s) (ok : Gro
   pub start-ok : (b : ℕ)
       → StepOk K (s .cells) j (R.startRule t (boundAt b)) (record { job = moved sources j; effect = startAct sources size s (j .label) (j .history) b })
   start-ok b = need-ok K (λ p. started-ok b (startable-fits b p))
+
+  pub choose-ok : (r a b : ℕ)
+      → StepOk K (s .cells) j (R.chooseRule (K .c) t r (boundAt a) (boundAt b))
+      (onPlain (register sources j r .value) (stay sources j)
+      (λ n. record { job = moved sources j; effect = startAct sources size s (j .label) (j .history) (chosen n a b) }))
+  choose-ok r a b =
+      need-ok K (λ p. plain-ok K (λ n en.
+      let q = both-left _ _ p in
+      started-ok (chosen n a b) (chosen-both Fitting n a b (startable-fits a (both-left _ _ q)) (startable-fits b (both-right _ _ q)))))
 
   pub exec-ok : (w : ℕ) → K .c .0 < t .p .0
       → StepOk K (s .cells) j (R.execRule (K .c) (shapeOf K) t w) (through sources j w (execAct sources size s (j .label) (j .history)))

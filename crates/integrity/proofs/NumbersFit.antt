@@ -57,7 +57,8 @@ module _ (s : List ℕ) (b : Bytes s) where
       (if-both StepFits (eqb k 70) z
       (if-both StepFits (eqb k 71) z
       (if-both StepFits (eqb k 72) z
-      (if-both StepFits (eqb k 73) z z)))))))))
+      (if-both StepFits (eqb k 73) z
+      (if-both StepFits (eqb k 74) z z))))))))))
 
   event-fits : (o : ℕ) → EventHas Fits (eventAt s o)
   unfolding eventAt

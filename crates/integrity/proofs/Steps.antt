@@ -9,7 +9,7 @@ use native.Mathlib.Omega.{arith}
 use borrow.Author.Tests.{not-true, leb-true, leb-false, ltb-false}
 use Rattle.labels.specs.declared.Label.{Label}
 use Rattle.book.specs.declared.Step.{Step}
-use Rattle.book.specs.declared.Step.the-variants.{Put, Name, Code, Add, New, Read, Write, Relabel, Lower, Start, Exec}
+use Rattle.book.specs.declared.Step.the-variants.{Put, Name, Code, Add, New, Read, Write, Relabel, Lower, Start, Exec, Choose}
 use Rattle.book.specs.Book.{Book}
 use Rattle.typing.specs.declared.State as T
 use Rattle.typing.specs.Shapes.{viewOf, isHighTrust, countedTrust}
@@ -17,14 +17,14 @@ use Rattle.typing.specs.Rules.{passes, isLow, lowRule, highRule, stepRule}
 use Rattle.machine.specs.Histories.{sources}
 use Rattle.machine.specs.States.{Job, State}
 use Rattle.machine.specs.Acts.{Effect, keep}
-use Rattle.machine.specs.Steps.{register, through, addStep, readStep, turnOf}
+use Rattle.machine.specs.Steps.{chosen, register, through, addStep, readStep, turnOf}
 use Rattle.integrity.proofs.Trees.{Grounded}
 use Rattle.integrity.proofs.Invariant.{shapeOf, Match, Invariant}
 use Rattle.integrity.proofs.Effects.{EffectOk, keep-ok}
 use Rattle.integrity.proofs.Walks.{StepOk, need-ok, either-ok, given-ok, entry-ok, plain-ok, cell-ok}
 use Rattle.integrity.proofs.LowActs.{BlocksPass, low-write, low-relabel, low-new, low-start, low-exec}
 use Rattle.integrity.proofs.Outcomes.{low-ok, moves-ok}
-use Rattle.integrity.proofs.HighSteps.{put-ok, name-ok, code-ok, add-ok, new-ok, read-ok, lower-ok, write-ok, relabel-ok, start-ok, exec-ok}
+use Rattle.integrity.proofs.HighSteps.{put-ok, name-ok, code-ok, add-ok, new-ok, read-ok, lower-ok, write-ok, relabel-ok, start-ok, exec-ok, choose-ok}
 
 module _ (K : Book) (size : ℕ) (s : State Label) (v : Invariant K s) (ok : Grounded (shapeOf K)) (pass : BlocksPass K) (j : Job Label) (t : T.State)
     (m : Match K (s .cells) t j) where
@@ -53,6 +53,8 @@ module _ (K : Book) (size : ℕ) (s : State Label) (v : Invariant K s) (ok : Gro
   low-step lo (Lower q) = lower-ok K size s v ok pass j t m q
   low-step lo (Start b) = moves-ok K s j t m _ (low-start K size s v (j .label) (j .history) (low-label lo) pass b)
   low-step lo (Exec w) = through-ok w _ (λ k. low-exec K size s v (j .label) (j .history) (low-label lo) pass k)
+  low-step lo (Choose r a b) =
+      plain-ok K (λ n en. moves-ok K s j t m _ (low-start K size s v (j .label) (j .history) (low-label lo) pass (chosen n a b)))
 
   high-step : K .c .0 < t .p .0 → (p : Step) → StepOk K (s .cells) j (highRule (viewOf K) t p) (turnOf sources size s j p)
   unfolding highRule turnOf viewOf
@@ -67,6 +69,7 @@ module _ (K : Book) (size : ℕ) (s : State Label) (v : Invariant K s) (ok : Gro
   high-step hi (Lower q) = lower-ok K size s v ok pass j t m q
   high-step hi (Start b) = start-ok K size s v ok pass j t m b
   high-step hi (Exec w) = exec-ok K size s v ok pass j t m w hi
+  high-step hi (Choose r a b) = choose-ok K size s v ok pass j t m r a b
 
   pub step-ok : (p : Step) → StepOk K (s .cells) j (stepRule (viewOf K) t p) (turnOf sources size s j p)
   unfolding stepRule viewOf

@@ -71,6 +71,8 @@ pub record StepsNeeded : Type 0 where
   pub exec-bound : Needed "exec: bound at least P"
   pub exec-trust : Needed "exec: S at least P"
   pub start-bound : Needed "start: bound at least P"
+  pub choose-first : Needed "choose: the first bound at least P"
+  pub choose-second : Needed "choose: the second bound at least P"
 
 pub record MachineNeeded : Type 0 where
   pub write-q : NeededThere "81: Q above C"
@@ -86,6 +88,8 @@ pub record MachineNeeded : Type 0 where
   pub start-label : NeededThere "start: at this label"
   pub lower-label : NeededThere "lower: Q is above the job's label"
   pub exec-lower : NeededThere "exec: the lower of the two labels"
+  pub choose-label : NeededThere "choose: the chooser's label"
+  pub choose-history : NeededThere "choose: the chooser's history alone"
 
 pub record EachNeeded : Type 0 where
   pub shapes : ShapesNeeded

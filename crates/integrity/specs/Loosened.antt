@@ -14,7 +14,7 @@ use Rattle.labels.specs.declared.Label.{Label}
 use Rattle.labels.specs.Labels.{label, topLabel, reaches, isHigh}
 use Rattle.book.specs.declared.Value.the-variants.{CellName}
 use Rattle.book.specs.declared.Step.{Step}
-use Rattle.book.specs.declared.Step.the-variants.{Put, Name, Code, Add, New, Read, Write, Relabel, Lower, Start, Exec}
+use Rattle.book.specs.declared.Step.the-variants.{Put, Name, Code, Add, New, Read, Write, Relabel, Lower, Start, Exec, Choose}
 use Rattle.book.specs.Control.{both, onSome}
 use Rattle.book.specs.Book.{Book, parse}
 use Rattle.book.specs.Refusals.{hasCellShape}
@@ -22,11 +22,11 @@ use Rattle.typing.specs.declared.Verdict.the-variants.{Accepted}
 use Rattle.typing.specs.Verdict.{verdict}
 use Rattle.machine.specs.declared.Event.{Event}
 use Rattle.machine.specs.declared.Event.the-variants.{StepOf, WriteBy, RelabelBy, NewBy, ExecBy, StartBy}
-use Rattle.machine.specs.Control.{given, onCode}
+use Rattle.machine.specs.Control.{given, onPlain, onCode}
 use Rattle.machine.specs.Histories.{History, append, lists}
 use Rattle.machine.specs.States.{Traced, Job, State}
 use Rattle.machine.specs.Acts.{Effect, blocked, keep, store, launch, blockedUnless, isFree, execLabel, acted, freshJob, newAct, startAct}
-use Rattle.machine.specs.Steps.{Turn, register, turn, stay, moved, gets, through, turnOf}
+use Rattle.machine.specs.Steps.{Turn, chosen, register, turn, stay, moved, gets, through, turnOf}
 use Rattle.machine.specs.Events.{Outcome, tableSize, firstBound, noStepLeft, noSuch, blockOf, statedTrust, isOutsider, isLabel, blockExists, cellExists, valueExists, unchanged}
 use Rattle.machine.specs.Events.{landed, turnLanded, ifSuch, brought, freshState, outcomeOf, stateAfter}
 use Rattle.integrity.specs.Integrity.{Sentences}
@@ -84,6 +84,13 @@ module _ (weakened : String) where
       (stay lists j)
 
   module _ (s : State History) (j : Job History) where
+    -- 02, Four: "The started job has the chooser's label, and its history is the chooser's alone"; where the first is weakened, it is at 15; where the
+    -- second is, it has the history of r too
+    abbrev pub chooseBy : ℕ → ℕ → Effect History
+    chooseBy r b =
+        startAct lists tableSize s (instead weakened "choose: the chooser's label" topLabel (j .label))
+        (instead weakened "choose: the chooser's history alone" (append (j .history) (register lists j r .history)) (j .history)) b
+
     -- a step that has no mark
     abbrev pub same : Step → Turn History
     same p = turnOf lists tableSize s j p
@@ -101,6 +108,7 @@ module _ (weakened : String) where
     turnBy (Lower q) = lowerStepBy j q
     turnBy (Start b) = turn lists (moved lists j) (startActBy s (j .label) (j .history) b)
     turnBy (Exec w) = through lists j w (execActBy s (j .label) (j .history))
+    turnBy (Choose r a b) = onPlain (register lists j r .value) (stay lists j) (λ n. turn lists (moved lists j) (chooseBy r (chosen n a b)))
 
   module _ (K : Book) where
     -- "Q above C" is no such

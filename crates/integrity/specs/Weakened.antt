@@ -18,7 +18,7 @@ use Rattle.labels.specs.Labels.{label, lower, reaches, isAbove, isMet, covers, 
 use Rattle.book.specs.declared.Shape.{Shape}
 use Rattle.book.specs.declared.Declared.{Declared}
 use Rattle.book.specs.declared.Step.{Step}
-use Rattle.book.specs.declared.Step.the-variants.{Put, Name, Code, Add, New, Read, Write, Relabel, Lower, Start, Exec}
+use Rattle.book.specs.declared.Step.the-variants.{Put, Name, Code, Add, New, Read, Write, Relabel, Lower, Start, Exec, Choose}
 use Rattle.book.specs.declared.Refusal.the-variants.{Passed}
 use Rattle.book.specs.Control.{if_then_else_, both, either, onSome}
 use Rattle.book.specs.Book.{Book, Block, parse}
@@ -164,6 +164,14 @@ module _ (weakened : String) where
   abbrev pub startRuleBy : State → Option Label → Typed
   startRuleBy t bound = breaksUnless (asked "start: bound at least P" (startable (t .p) bound)) (passes t)
 
+  -- 02, Four: "With P above C, both bounds must be at least P, and r must be plain unless its effect is low."
+  abbrev pub chooseRuleBy : Label → State → ℕ → Option Label → Option Label → Typed
+  chooseRuleBy c t r first second =
+      breaksUnless
+      (both (both (asked "choose: the first bound at least P" (startable (t .p) first)) (asked "choose: the second bound at least P" (startable (t .p) second)))
+      (plainOrLow c t r))
+      (passes t)
+
   module _ (B : View) where
     -- "A declared cell of trust above C needs label at least trust and a fitting value. Others need nothing."
     unfoldable pub declaredBy : Declared → Bool
@@ -194,6 +202,7 @@ module _ (weakened : String) where
     stepRuleBy t (Lower q) = lowerRuleBy (B .c) (B .shape) t q
     stepRuleBy t (Start b) = marked t (Start b) (startRuleBy t (B .bound b))
     stepRuleBy t (Exec w) = marked t (Exec w) (execRuleBy (B .c) (B .shape) t w)
+    stepRuleBy t (Choose r a b) = marked t (Choose r a b) (chooseRuleBy (B .c) t r (B .bound a) (B .bound b))
 
     -- "P begins as the bound."; where this place is weakened, one below it
     abbrev pub freshBy : Label → State

@@ -18,8 +18,8 @@ use Rattle.labels.specs.Labels.{label}
 use Rattle.book.specs.declared.Value.{Value}
 use Rattle.book.specs.declared.Value.the-variants.{Plain, CellName, CodeName}
 use Rattle.book.specs.declared.Step.{Step}
-use Rattle.book.specs.declared.Step.the-variants.{Put, Name, Code, Add, New, Read, Write, Relabel, Lower, Start, Exec}
-use Rattle.machine.specs.Control.{onCell}
+use Rattle.book.specs.declared.Step.the-variants.{Put, Name, Code, Add, New, Read, Write, Relabel, Lower, Start, Exec, Choose}
+use Rattle.machine.specs.Control.{onPlain, onCell}
 use Rattle.machine.specs.declared.Event.{Event}
 use Rattle.machine.specs.declared.Event.the-variants.{StepOf, WriteBy, RelabelBy, NewBy, ExecBy, StartBy}
 use Rattle.machine.specs.Histories.{sources}
@@ -105,6 +105,15 @@ module _ (s : State Label) (y : Near) (cells-are : length (s .cells) ≡ y .cell
             simp (e, q)
         go (CodeName b) e = simp e
 
+    choose-nearby : (r a b : ℕ) → turnOf sources tableSize s j (Choose r a b) ≡ turnOf sources tableSize (nearby y) j (Choose r a b)
+    unfolding turnOf onPlain
+    choose-nearby r a b = go (register sources j r .value) refl
+      where
+        go : (v : Value) → register sources j r .value ≡ v → turnOf sources tableSize s j (Choose r a b) ≡ turnOf sources tableSize (nearby y) j (Choose r a b)
+        go (Plain n) e = simp (e, start-nearby (j .label) (j .history))
+        go (CellName k) e = simp e
+        go (CodeName b) e = simp e
+
     pub turn-nearby : (p : Step) → Reached (reachedBy p j) → turnOf sources tableSize s j p ≡ turnOf sources tableSize (nearby y) j p
     unfolding turnOf targetBy
     turn-nearby (Put r n) t = refl
@@ -126,6 +135,7 @@ module _ (s : State Label) (y : Near) (cells-are : length (s .cells) ≡ y .cell
     turn-nearby (Exec w) t =
         through-same w (execAct sources tableSize s (j .label) (j .history)) (execAct sources tableSize (nearby y) (j .label) (j .history))
         (exec-nearby (j .label) (j .history) (numberIn j w)) t
+    turn-nearby (Choose r a b) t = choose-nearby r a b
 
   pub outside-nearby : (e : Event) → Reached (aimedAt e) → outside s e ≡ outside (nearby y) e
   unfolding outside aimedAt
@@ -208,6 +218,7 @@ module _ (s : State Label) where
     turn-allowed (Lower q) = given-both TurnAllowed waits (λ e. keeps)
     turn-allowed (Start b) = record { effect = start-allowed (j .label) (j .history) b }
     turn-allowed (Exec w) = through-allowed w _ (exec-allowed (j .label) (j .history))
+    turn-allowed (Choose r a b) = plain-both TurnAllowed waits (λ n en. record { effect = start-allowed (j .label) (j .history) _ })
 
   pub outside-allowed : (e : Event) → Allowed (outside s e)
   unfolding outside

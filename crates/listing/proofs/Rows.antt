@@ -23,6 +23,7 @@ rows =
       other-event = refl;
       cut-cell = refl;
       cut-exec = refl;
+      cut-choose = refl;
       cut-write = refl;
       cut-start = refl;
       largest = refl;

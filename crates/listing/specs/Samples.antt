@@ -17,7 +17,7 @@ row k x y z n o = record { kind = k; first = x; second = y; third = z; number = 
 
 -- "1: C", "16 plain shape, no body; 17 code shape: bound; 18 cell shape: content shape, trust", "32 cell: shape, label, value kind .., number",
 -- "48 block: bound ..", and "64 put r, number; 65 name r, cell; 66 code r, block; 67 add r, a, b; 68 new r, shape, a; 69 read r, w; 70 write w, a;
--- 71 relabel w, label; 72 lower label; 73 start block; 74 exec w"
+-- 71 relabel w, label; 72 lower label; 73 start block; 74 exec w"; 02, Four: "Kind 75, choose r, block, block"
 abbrev pub everyRecord : List ℕ
 everyRecord =
     1 ∷ 2
@@ -37,6 +37,7 @@ everyRecord =
     ∷ 72 ∷ 27
     ∷ 73 ∷ 28
     ∷ 74 ∷ 29
+    ∷ 75 ∷ 30 ∷ 31 ∷ 32
     ∷ []
 
 -- "80 step job; by an outsider at label Q: 81 write Q, cell, value kind, number; 82 relabel Q, cell, label; 83 new Q, shape, value kind,
@@ -70,6 +71,7 @@ pub record Rows : Type 0 where
       ∷ row 72 27 0 0 0 49
       ∷ row 73 28 0 0 0 51
       ∷ row 74 29 0 0 0 53
+      ∷ row 75 30 31 32 0 57
       ∷ []
   pub of-events : map (eventFields everyEvent) (offsetsFrom everyEvent 0)
       ≡ row 80 1 0 0 0 2
@@ -80,17 +82,18 @@ pub record Rows : Type 0 where
       ∷ row 85 13 14 0 0 28
       ∷ []
   -- at the end, past it, and in nothing
-  pub end : recordFields everyRecord 53 ≡ noFields
+  pub end : recordFields everyRecord 57 ≡ noFields
   pub past : eventFields everyEvent 1000 ≡ noFields
   pub empty : recordFields [] 0 ≡ noFields
   -- no kind; a kind of events in a book, and of records in a list
   pub below : recordFields (15 ∷ 0 ∷ []) 0 ≡ noFields
-  pub above : recordFields (75 ∷ 0 ∷ 0 ∷ 0 ∷ 0 ∷ []) 0 ≡ noFields
+  pub above : recordFields (76 ∷ 0 ∷ 0 ∷ 0 ∷ 0 ∷ []) 0 ≡ noFields
   pub other-record : recordFields everyEvent 0 ≡ noFields
   pub other-event : eventFields everyRecord 0 ≡ noFields
   -- all but the last byte
   pub cut-cell : recordFields (32 ∷ 1 ∷ 2 ∷ 3 ∷ 4 ∷ 5 ∷ 6 ∷ []) 0 ≡ noFields
   pub cut-exec : recordFields (74 ∷ []) 0 ≡ noFields
+  pub cut-choose : recordFields (75 ∷ 1 ∷ 2 ∷ []) 0 ≡ noFields
   pub cut-write : eventFields (81 ∷ 1 ∷ 2 ∷ 3 ∷ 4 ∷ 5 ∷ 6 ∷ []) 0 ≡ noFields
   pub cut-start : eventFields (85 ∷ 13 ∷ []) 0 ≡ noFields
   -- the largest number

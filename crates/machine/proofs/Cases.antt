@@ -1,5 +1,6 @@
 -- What holds of both branches of a case of the machine holds of the case; a branch is told what its test gave.
 --     given-both, some-both, plain-both, cell-both, code-both
+--     chosen-both     what holds of both blocks of a choice holds of the one that is chosen
 -- Assumes nothing.
 use mathlib.Core.Path.{_≡_, refl}
 use mathlib.Core.Bool.{Bool, true, false}
@@ -9,6 +10,7 @@ use Rattle.book.specs.declared.Value.{Value}
 use Rattle.book.specs.declared.Value.the-variants.{Plain, CellName, CodeName}
 use Rattle.book.specs.Control.{onSome}
 use Rattle.machine.specs.Control.{given, onPlain, onCell, onCode}
+use Rattle.machine.specs.Steps.{chosen}
 
 -- of the branch x, where no test holds, and of the other
 module _ {X : Type 0} (P : X → Type 0) {x : X} (p : P x) where
@@ -39,3 +41,7 @@ module _ {X : Type 0} (P : X → Type 0) {x : X} (p : P x) where
   code-both {v = Plain n} g = p
   code-both {v = CellName n} g = p
   code-both {v = CodeName n} g = g n refl
+
+pub chosen-both : (P : ℕ → Type 0) (n a b : ℕ) → P a → P b → P (chosen n a b)
+unfolding chosen
+chosen-both P n a b p q = given-both P p (λ e. q)

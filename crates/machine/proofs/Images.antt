@@ -8,7 +8,7 @@ use lib.ListN.{length-map, List·getD-map}
 use Rattle.labels.specs.declared.Label.{Label}
 use Rattle.book.specs.declared.Declared.{Declared}
 use Rattle.book.specs.declared.Step.{Step}
-use Rattle.book.specs.declared.Step.the-variants.{Put, Name, Code, Add, New, Read, Write, Relabel, Lower, Start, Exec}
+use Rattle.book.specs.declared.Step.the-variants.{Put, Name, Code, Add, New, Read, Write, Relabel, Lower, Start, Exec, Choose}
 use Rattle.book.specs.Book.{Book}
 use Rattle.machine.specs.declared.Event.{Event}
 use Rattle.machine.specs.declared.Event.the-variants.{StepOf, WriteBy, RelabelBy, NewBy, ExecBy, StartBy}
@@ -77,6 +77,7 @@ module _ (A B : Histories) (i : Image A B) where
     turn-image (Lower q) = simp (given-map (turnImage of), of-join, of-one)
     turn-image (Start b) = simp starting-image
     turn-image (Exec w) = simp (register-image j, onCell-map (turnImage of), executing-image)
+    turn-image (Choose r a b) = simp (register-image j, onPlain-map (turnImage of), starting-image)
 
   landed-image : (s t : State (A .H)) (e : Effect (A .H)) → outcomeImage of (landed s t e) ≡ landed (stateImage of s) (stateImage of t) (effectImage of e)
   unfolding landed effectImage

@@ -21,11 +21,11 @@ use Rattle.book.specs.declared.Value.{Value}
 use Rattle.book.specs.declared.Value.the-variants.{Plain, CellName, CodeName}
 use Rattle.book.specs.declared.Declared.{Declared}
 use Rattle.book.specs.declared.Step.{Step}
-use Rattle.book.specs.declared.Step.the-variants.{Put, Name, Code, Add, New, Read, Write, Relabel, Lower, Start, Exec}
+use Rattle.book.specs.declared.Step.the-variants.{Put, Name, Code, Add, New, Read, Write, Relabel, Lower, Start, Exec, Choose}
 use Rattle.book.specs.Book.{Book, valueOf}
 use Rattle.book.specs.Refusals.{valueNamed, cellNamed, stepNamed, hasCellShape}
 use Rattle.book.proofs.Decoded.{number-is}
-use Rattle.book.proofs.Tests.{both-right}
+use Rattle.book.proofs.Tests.{both-left, both-right}
 use Rattle.book.proofs.Every.{All, all-each, all-set, all-push, all-at, all-get, all-replicate, all-both, mapped}
 use Rattle.book.proofs.Parsed.{SoundBlock, SoundBook}
 use Rattle.machine.specs.declared.Event.{Event}
@@ -36,7 +36,7 @@ use Rattle.machine.specs.Acts.{Effect, blocked, keep, store, create, lau
 use Rattle.machine.specs.Steps.{Turn, summable, register, gets, moved, addStep, readStep, lowerStep, through, turnOf}
 use Rattle.machine.specs.Events.{noBlock, blockOf, valueExists, Outcome, declared, landed, turnLanded, outcomeOf, freshState, stateAfter}
 use Rattle.machine.specs.Records.{numberOf}
-use Rattle.machine.proofs.Cases.{given-both, some-both, plain-both, cell-both, code-both}
+use Rattle.machine.proofs.Cases.{given-both, some-both, plain-both, cell-both, code-both, chosen-both}
 
 -- the number that a step, an event brings
 abbrev pub stepNumber : Step → ℕ
@@ -51,6 +51,7 @@ stepNumber (Relabel w o) = 0
 stepNumber (Lower l) = 0
 stepNumber (Start b) = 0
 stepNumber (Exec w) = 0
+stepNumber (Choose r a b) = 0
 
 abbrev pub eventNumber : Event → ℕ
 eventNumber (StepOf i) = 0
@@ -236,6 +237,11 @@ module _ (Q : ℕ → Type 0) (A : Histories) (K : Book) (size : ℕ) (N : Numbe
         (λ t. goes (record { block = n .block; position = omega arith; registers = n .registers; eight = n .eight }) keep-named)
     turn-named f cells (Start b) e h = goes moved-named (starting-named s q (j .label) (j .history) b (ltb-true _ _ e))
     turn-named f cells (Exec w) e h = through-named w _ (executing-named s q (j .label) (j .history))
+    turn-named f cells (Choose r a b) e h =
+        plain-both (TurnNamed Q K) waits
+        (λ x ex.
+        let i = chosen-both (λ b. b < blocks) x a b (ltb-true _ _ (both-left _ _ e)) (ltb-true _ _ (both-right _ _ e)) in
+        goes moved-named (starting-named s q _ _ _ i))
 
   -- the events
   module _ (ok : SoundBook K) (has : BookHas Q K) where

@@ -11,9 +11,9 @@ use Rattle.book.specs.Book.{groupOf, stepsFrom, shapeAt, valueOf, declaredAt, s
 use Rattle.book.specs.Refusals.{valueNamed}
 use Rattle.machine.specs.Control.{given, onPlain, onCell, onCode}
 use Rattle.machine.specs.Acts.{execLabel, writeAct, relabelAct, newAct, startAct, execAct}
-use Rattle.machine.specs.Steps.{summable, addStep, readStep, lowerStep, turnOf}
+use Rattle.machine.specs.Steps.{summable, chosen, addStep, readStep, lowerStep, turnOf}
 use Rattle.machine.specs.Events.{launchedAt, landed, turnLanded, outcomeOf, stateAfter, answers}
-use Rattle.machine.specs.Samples.{SampleRuns, HistoryRun, TopSums, LaunchRuns}
+use Rattle.machine.specs.Samples.{SampleRuns, HistoryRun, TopSums, LaunchRuns, ChooseRuns}
 
 pub sample-runs : SampleRuns
 unfolding lower both either those while span limits group numberAt cutBy offsetsIn offsetsBy groupOf stepsFrom shapeAt valueOf declaredAt stepAt blockAt parse valueNamed
@@ -48,3 +48,23 @@ pub launch-runs : LaunchRuns
 unfolding lower both either those while span limits group numberAt cutBy offsetsIn offsetsBy groupOf stepsFrom shapeAt valueOf declaredAt stepAt blockAt parse valueNamed
     onSome given onPlain onCell onCode execLabel writeAct relabelAct newAct startAct execAct summable addStep readStep lowerStep turnOf launchedAt landed turnLanded outcomeOf stateAfter answers
 launch-runs = record { low-answers = refl; low-job = refl; given-answers = refl; given-job = refl; bounds = refl; defaults = refl }
+
+pub choose-runs : ChooseRuns
+unfolding lower both either those while span limits group numberAt cutBy offsetsIn offsetsBy groupOf stepsFrom shapeAt valueOf declaredAt stepAt blockAt parse valueNamed
+    onSome given onPlain onCell onCode execLabel writeAct relabelAct newAct startAct execAct summable chosen addStep readStep lowerStep turnOf launchedAt landed turnLanded outcomeOf stateAfter answers
+choose-runs =
+    record {
+      one = record { answered = refl; jobs = refl };
+      second-byte = record { answered = refl; jobs = refl };
+      third-byte = record { answered = refl; jobs = refl };
+      fourth-byte = record { answered = refl; jobs = refl };
+      largest = record { answered = refl; jobs = refl };
+      zero = record { answered = refl; jobs = refl };
+      chooser-registers = refl;
+      started-registers = refl;
+      cell-name = record { answered = refl; state = refl };
+      code = record { answered = refl; state = refl };
+      full = refl;
+      full-state = refl;
+      lowered = refl;
+    }

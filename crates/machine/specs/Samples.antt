@@ -3,18 +3,20 @@
 --     HistoryRun       one that has nearly every act, with the histories that it leaves
 --     TopSums          sums at the top: 02, Two
 --     LaunchRuns       book A launched low, and the default label: 02, Three
+--     ChooseRuns       a choice that hangs on an outsider's value: 02, Four
 -- Assumes nothing.
 use Prim.Native.Nat.{ℕ}
 use mathlib.Core.Path.{_≡_}
 use mathlib.Core.List.{List, [], _∷_, map}
-use lib.ListN.{replicate}
+use mathlib.Core.Option.{some}
+use lib.ListN.{replicate, getElem?}
 use Rattle.labels.specs.declared.Label.{Label}
 use Rattle.labels.specs.Labels.{label, trust}
 use Rattle.book.specs.declared.Value.{Value}
 use Rattle.book.specs.declared.Value.the-variants.{Plain, CodeName}
-use Rattle.book.specs.declared.Step.the-variants.{Put, Add}
+use Rattle.book.specs.declared.Step.the-variants.{Put, Add, Lower, Choose}
 use Rattle.book.specs.Book.{Book, parse}
-use Rattle.book.specs.Samples.{bookA, lastWrite}
+use Rattle.book.specs.Samples.{bookA, lastWrite, bookOfChoice}
 use Rattle.machine.specs.declared.Launch.{Launch}
 use Rattle.machine.specs.declared.Launch.the-variants.{Default, Given}
 use Rattle.machine.specs.declared.Event.{Event}
@@ -184,3 +186,64 @@ pub record LaunchRuns : Type 0 where
   pub bounds : firstBound (ofBounds 12 2) .0 ∷ firstBound (ofBounds 2 12) .0 ∷ [] ≡ 12 ∷ 2 ∷ []
   -- "the smaller of C plus 1 and the bound": C plus 1 below the bound, at it, and above it
   pub defaults : byDefault 3 5 ∷ byDefault 3 4 ∷ byDefault 3 3 ∷ byDefault 3 0 ∷ byDefault 14 15 ∷ [] ≡ 4 ∷ 4 ∷ 3 ∷ 0 ∷ 15 ∷ []
+
+-- block 0, of bound 12, reads cell 0 into register 1, and chooses by it between blocks 1 and 2
+abbrev pub choosing : Book
+choosing = parse (bookOfChoice 0x0C 0x01 0x01 0x02 0x0C 0x0C)
+
+-- an outsider at 3 writes a value of this kind and number into cell 0; job 0 reads it
+abbrev pub untilRead : ℕ → ℕ → List Event
+untilRead k n = WriteBy (label 3) 0 k n ∷ StepOf 0 ∷ StepOf 0 ∷ []
+
+-- and chooses
+abbrev pub untilChosen : ℕ → ℕ → List Event
+untilChosen k n = WriteBy (label 3) 0 k n ∷ StepOf 0 ∷ StepOf 0 ∷ StepOf 0 ∷ []
+
+-- job 0, which has chosen, and the job that it started: "The started job has the chooser's label, and its history is the chooser's alone"
+abbrev pub hasChosen : ℕ → List (ℕ × ℕ × ℕ × List ℕ)
+hasChosen b = (0, 3, 12, 12 ∷ []) ∷ (b, 0, 12, 12 ∷ []) ∷ []
+
+pub record ChooseDone (n b : ℕ) : Type 0 where
+  pub answered : answersOf choosing (untilChosen 0 n) ≡ 0 ∷ 0 ∷ 0 ∷ 0 ∷ []
+  pub jobs : map shownJob (reached choosing (untilChosen 0 n) .jobs) ≡ hasChosen b
+
+-- "is blocked otherwise"; 01: "\"Blocked\" changes nothing"
+pub record ChooseBlocked (k n : ℕ) : Type 0 where
+  pub answered : answersOf choosing (untilChosen k n) ≡ 0 ∷ 0 ∷ 0 ∷ 1 ∷ []
+  pub state : reached choosing (untilChosen k n) ≡ reached choosing (untilRead k n)
+
+-- a job that lowers itself to 5, and then chooses by a register that is plain 0
+abbrev pub loweredChoice : Book
+loweredChoice =
+    record {
+      c = label 3;
+      shapes = [];
+      cells = [];
+      blocks =
+          record { bound = label 12; steps = Lower (label 5) ∷ Choose 0 1 2 ∷ [] }
+          ∷ record { bound = label 12; steps = [] }
+          ∷ record { bound = label 12; steps = [] }
+          ∷ [];
+    }
+
+-- 02, Four
+pub record ChooseRuns : Type 0 where
+  -- "it starts the first block if r is plain and not 0", whichever of its bytes are 0
+  pub one : ChooseDone 1 1
+  pub second-byte : ChooseDone 256 1
+  pub third-byte : ChooseDone 65536 1
+  pub fourth-byte : ChooseDone 16777216 1
+  pub largest : ChooseDone 4294967295 1
+  -- "the second if r is plain 0"
+  pub zero : ChooseDone 0 2
+  -- The outsider's label is in the history of what the choice hangs on, and not in that of the job that is started, or of its registers.
+  pub chooser-registers : map (λ (j : Job History). numbers (register lists j 1 .history)) (reached choosing (untilRead 0 7) .jobs) ≡ (3 ∷ 3 ∷ 12 ∷ []) ∷ []
+  pub started-registers : getElem? (map handsOf (reached choosing (untilChosen 0 7) .jobs)) 1 ≡ some (handsAt 12)
+  -- the name of cell 0, the code of block 1
+  pub cell-name : ChooseBlocked 1 0
+  pub code : ChooseBlocked 2 1
+  -- "or when no job fits", in tables of one entry
+  pub full : answers lists 1 choosing (begun choosing (atBound choosing)) (untilChosen 0 7) ≡ 0 ∷ 0 ∷ 0 ∷ 1 ∷ []
+  pub full-state : stateAfter lists 1 choosing (begun choosing (atBound choosing)) (untilChosen 0 7) ≡ reached choosing (untilRead 0 7)
+  -- the chooser's label and history as they are then
+  pub lowered : map shownJob (reached loweredChoice (StepOf 0 ∷ StepOf 0 ∷ []) .jobs) ≡ (0, 2, 5, 12 ∷ 5 ∷ []) ∷ (2, 0, 5, 12 ∷ 5 ∷ []) ∷ []

@@ -1,19 +1,20 @@
--- A step of a job: 01, "The machine", with add as 02, Two, has it. Each kind of step is one definition.
+-- A step of a job: 01, "The machine", with add as 02, Two, and choose as 02, Four, has it. Each kind of step is one definition.
 --     Turn                   the job after its step, and what the step does to the tables
 --     register, gets         a register of a job; a job whose step gave a register
 --     summable               which sums add makes
+--     chosen                 which block choose starts
 --     addStep, .., turnOf    each kind of step; a step
 -- Assumes nothing.
 use Prim.Native.Nat.{ℕ, suc, _+_}
 use mathlib.Core.Bool.{Bool}
-use lib.Dec.{ltb}
+use lib.Dec.{ltb, eqb}
 use lib.ListN.{length, getD, set, getElem?}
 use Rattle.labels.specs.declared.Label.{Label}
 use Rattle.labels.specs.Labels.{reaches}
 use Rattle.book.specs.declared.Value.{Value}
 use Rattle.book.specs.declared.Value.the-variants.{Plain, CellName, CodeName}
 use Rattle.book.specs.declared.Step.{Step}
-use Rattle.book.specs.declared.Step.the-variants.{Put, Name, Code, Add, New, Read, Write, Relabel, Lower, Start, Exec}
+use Rattle.book.specs.declared.Step.the-variants.{Put, Name, Code, Add, New, Read, Write, Relabel, Lower, Start, Exec, Choose}
 use Rattle.book.specs.Control.{onSome}
 use Rattle.machine.specs.Control.{given, onPlain, onCell}
 use Rattle.machine.specs.Histories.{Histories}
@@ -28,6 +29,10 @@ pub record Turn (H : Type 0) : Type 0 where
 -- the exact sum is not "4,294,967,296 or more"
 unfoldable pub summable : ℕ → ℕ → Bool
 summable x y = ltb (x + y) 4294967296
+
+-- 02, Four: "it starts the first block if r is plain and not 0, the second if r is plain 0"
+unfoldable pub chosen : ℕ → ℕ → ℕ → ℕ
+chosen n first second = given (eqb n 0) second first
 
 -- over any histories
 module _ (A : Histories) where
@@ -107,3 +112,6 @@ module _ (A : Histories) where
     turnOf (Lower q) = lowerStep j q
     turnOf (Start b) = turn (moved j) (startAct A size s (j .label) (j .history) b)
     turnOf (Exec w) = through j w (execAct A size s (j .label) (j .history))
+    -- 02, Four: "and is blocked otherwise or when no job fits"; "The started job has the chooser's label, and its history is the chooser's alone"
+    turnOf (Choose r a b) =
+        onPlain (register j r .value) (stay j) (λ n. turn (moved j) (startAct A size s (j .label) (j .history) (chosen n a b)))

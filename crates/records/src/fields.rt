@@ -52,11 +52,14 @@ fn step_span(kind: u8) -> u8
     if kind == kind::PUT {
         return 6;
     }
-    if kind::EXEC < kind {
-        return 0;
-    }
     if kind::LOWER <= kind {
-        return 2;
+        if kind <= kind::EXEC {
+            return 2;
+        }
+        if kind <= kind::CHOOSE {
+            return 4;
+        }
+        return 0;
     }
     if kind::READ <= kind {
         return 3;
@@ -112,7 +115,7 @@ pub fn group_of(kind: u8) -> u8
     ensures { λ r. ⌜ r ≡ group kind ⌝ }
 {
     if kind::PUT <= kind {
-        if kind <= kind::EXEC {
+        if kind <= kind::CHOOSE {
             return group::STEPS;
         }
         return group::NONE;

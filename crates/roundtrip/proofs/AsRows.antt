@@ -11,7 +11,6 @@ use borrow.Author.Tests.{eqb-true, eqb-false, ltb-false}
 use Rattle.labels.specs.Labels.{label}
 use Rattle.book.specs.declared.Shape.{Shape}
 use Rattle.book.specs.declared.Step.{Step}
-use Rattle.book.specs.declared.Step.the-variants.{Exec}
 use Rattle.book.specs.Control.{either}
 use Rattle.book.specs.Kinds.{span, group, limits}
 use Rattle.book.specs.Spans.{Bytes}
@@ -23,7 +22,7 @@ use Rattle.book.proofs.Tests.{either-left, either-right}
 use Rattle.book.proofs.Digits.{digits}
 use Rattle.book.proofs.Groups.{is-c, is-shape, is-cell, is-block, is-step}
 use Rattle.book.proofs.Part.{up}
-use Rattle.book.proofs.Decoded.{is-code-shape, is-cell-shape, is-plain-shape, is-put, is-name, is-code, is-add, is-new, is-read, is-write, is-relabel, is-lower, is-start}
+use Rattle.book.proofs.Decoded.{is-code-shape, is-cell-shape, is-plain-shape, is-put, is-name, is-code, is-add, is-new, is-read, is-write, is-relabel, is-lower, is-start, is-exec, choose-past}
 use Rattle.rows.specs.Rows.{Row, rowOf, someNonzero, cRow, shapeRow, cellRow, blockRow, stepRow}
 use Rattle.rows.specs.Parsed.{shapeRowOf, cellRowOf, blockRowOf, stepRowOf}
 use Rattle.roundtrip.proofs.RecordRows.{rowAt, bytesFrom, bytes-are}
@@ -65,10 +64,6 @@ module _ (s : List ℕ) (o : ℕ) where
       let d : byteAt s (o + 1 + 1 + 1) ≤ 2 = ltb-false _ _ (either-left _ _ c) in
       let e : o + 1 + 1 + 1 ≡ o + 3 = omega arith in
       rw e at d
-
-  exec-is : byteAt s o ≡ 74 → Exec (byteAt s (o + 1)) ≡ stepAt s o
-  unfolding stepAt
-  exec-is h = simp h
 
 module _ (s : List ℕ) (o : ℕ) (c : cut s o ≡ false) where
   -- x stands in a record of kind k, and its row has these bytes
@@ -160,7 +155,11 @@ module _ (s : List ℕ) (o : ℕ) (c : cut s o ≡ false) where
 
   exec-row : byteAt s o ≡ 74 → asStep (stepAt s o) ≡ rowAt s o
   unfolding rowOf someNonzero either span group stepRowOf
-  exec-row h = told asStep _ _ (exec-is s o h) 74 1 h refl refl
+  exec-row h = told asStep _ _ (is-exec s o _ refl h) 74 1 h refl refl
+
+  choose-row : byteAt s o ≡ 75 → asStep (stepAt s o) ≡ rowAt s o
+  unfolding rowOf someNonzero either span group stepRowOf
+  choose-row h = told asStep _ _ (choose-past s o _ refl _ refl _ refl (omega arith)) 75 3 h refl refl
 
   pub step-row : Bytes s → group (byteAt s o) ≡ 5 → stepRow (stepRowOf (stepAt s o)) ≡ rowAt s o
   step-row b g =
@@ -168,4 +167,4 @@ module _ (s : List ℕ) (o : ℕ) (c : cut s o ≡ false) where
       let r = is-step k g in
       up k 64 (r .0) (put-row b) (λ l. up k 65 l name-row (λ l. up k 66 l code-row (λ l. up k 67 l add-row (λ l. up k 68 l new-row
       (λ l. up k 69 l read-row (λ l. up k 70 l write-row (λ l. up k 71 l relabel-row (λ l. up k 72 l lower-row
-      (λ l. up k 73 l start-row (λ l. exec-row (omega (arith, r .1))))))))))))
+      (λ l. up k 73 l start-row (λ l. up k 74 l exec-row (λ l. choose-row (omega (arith, r .1)))))))))))))

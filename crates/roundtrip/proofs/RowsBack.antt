@@ -104,4 +104,4 @@ pub step-back : (k : ℕ) → group k ≡ 5 → StepBack k
 unfolding span stepAt stepRowOf numberAt
 step-back =
     by-kind StepBack 5 (omega arith)
-    (put 64, (two 65, (two 66, (three 67, (three 68, (two 69, (two 70, (two 71, (one 72, (one 73, (one 74, tt)))))))))))
+    (put 64, (two 65, (two 66, (three 67, (three 68, (two 69, (two 70, (two 71, (one 72, (one 73, (one 74, (three 75, tt))))))))))))

@@ -45,7 +45,8 @@ module _ (s : List ℕ) (b : Bytes s) where
       (if-both Fits (eqb k 70) z
       (if-both Fits (eqb k 71) z
       (if-both Fits (eqb k 72) z
-      (if-both Fits (eqb k 73) z z)))))))))
+      (if-both Fits (eqb k 73) z
+      (if-both Fits (eqb k 74) z z))))))))))
 
   steps-small : (os : List ℕ) → All StepSmall (stepRowsOf (map (blockAt s) os))
   unfolding stepRowsOf blockAt

@@ -10,9 +10,9 @@ use lib.ListN.{length}
 use Rattle.book.specs.declared.Shape.{Shape}
 use Rattle.book.specs.declared.Declared.{Declared}
 use Rattle.book.specs.declared.Step.{Step}
-use Rattle.book.specs.declared.Step.the-variants.{Put, Name, Code, Add, New, Read, Write, Relabel, Lower, Start, Exec}
+use Rattle.book.specs.declared.Step.the-variants.{Put, Name, Code, Add, New, Read, Write, Relabel, Lower, Start, Exec, Choose}
 use Rattle.book.specs.Numbers.{plainShapeKind, codeShapeKind, cellShapeKind, putKind, nameKind, codeKind, addKind, newKind, readKind, writeKind, relabelKind}
-use Rattle.book.specs.Numbers.{lowerKind, startKind, execKind}
+use Rattle.book.specs.Numbers.{lowerKind, startKind, execKind, chooseKind}
 use Rattle.book.specs.Control.{if_then_else_}
 use Rattle.book.specs.Records.{numberBytes}
 use Rattle.book.specs.Book.{Book, Block, kindOf, numberOf}
@@ -33,7 +33,7 @@ abbrev pub stepOf : ℕ → ℕ → ℕ → ℕ → ℕ → StepRow
 stepOf k x y z n = record { kind = k; x = x; y = y; z = z; number = n }
 
 -- "64 put r, number; 65 name r, cell; 66 code r, block; 67 add r, a, b; 68 new r, shape, a; 69 read r, w; 70 write w, a; 71 relabel
--- w, label; 72 lower label; 73 start block; 74 exec w"
+-- w, label; 72 lower label; 73 start block; 74 exec w". 02, Four: "Kind 75, choose r, block, block"
 unfoldable pub stepRowOf : Step → StepRow
 stepRowOf (Put r n) = stepOf putKind r 0 0 n
 stepRowOf (Name r k) = stepOf nameKind r k 0 0
@@ -46,6 +46,7 @@ stepRowOf (Relabel w o) = stepOf relabelKind w (o .0) 0 0
 stepRowOf (Lower q) = stepOf lowerKind (q .0) 0 0 0
 stepRowOf (Start b) = stepOf startKind b 0 0 0
 stepRowOf (Exec w) = stepOf execKind w 0 0 0
+stepRowOf (Choose r a b) = stepOf chooseKind r a b 0
 
 -- "Each block row gives its step count."
 abbrev pub blockRowOf : Block → BlockRow

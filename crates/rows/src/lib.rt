@@ -91,5 +91,6 @@ pub fn step_row(p: Step) -> [u8; STEP_ROW]
         Step::Lower(q) => step_bytes(kind::LOWER, q.0, 0, 0, 0),
         Step::Start(b) => step_bytes(kind::START, b, 0, 0, 0),
         Step::Exec(w) => step_bytes(kind::EXEC, w, 0, 0, 0),
+        Step::Choose(r, a, b) => step_bytes(kind::CHOOSE, r, a, b, 0),
     }
 }

@@ -55,6 +55,7 @@ fn fit_record(s: &[u8], o: usize) -> u8
         kind::LOWER => fit(s, o, 2, limit::LABEL, limit::ANY, limit::ANY),
         kind::START => fit(s, o, 2, limit::ANY, limit::ANY, limit::ANY),
         kind::EXEC => fit(s, o, 2, limit::REGISTER, limit::ANY, limit::ANY),
+        kind::CHOOSE => fit(s, o, 4, limit::REGISTER, limit::ANY, limit::ANY),
         _ => 0,
     }
 }

@@ -1,5 +1,5 @@
 -- Laws of the steps, for the code: the effect that a function hands back is the machine's turn.
---     adds, reads, throughs, lowers                   one set for each: add; read; write, relabel and exec; lower
+--     adds, reads, throughs, lowers, chooses          one set for each: add; read; write, relabel and exec; lower; choose
 --     put-is, name-is, code-is, new-is, start-is      the others
 --     as-told                                         a step that is told by its bytes
 -- Assumes nothing.
@@ -9,22 +9,22 @@ use Prim.Native.Nat.{ℕ, _+_, _<_, _≤_}
 use mathlib.Core.List.{List}
 use lib.Dec.{ltb}
 use lib.ListN.{getElem?}
-use borrow.Author.Tests.{lt-ltb, le-ltb}
+use borrow.Author.Tests.{lt-ltb, le-ltb, ne-eqb}
 use Rattle.labels.specs.declared.Label.{Label}
 use Rattle.labels.specs.Labels.{lower, reaches}
 use Rattle.book.specs.declared.Value.the-variants.{Plain}
 use Rattle.book.specs.declared.Step.{Step}
-use Rattle.book.specs.declared.Step.the-variants.{Put, Name, Code, Add, New, Read, Write, Relabel, Start, Exec}
+use Rattle.book.specs.declared.Step.the-variants.{Put, Name, Code, Add, New, Read, Write, Relabel, Start, Exec, Choose}
 use Rattle.book.specs.declared.Step.the-variants as Step
 use Rattle.book.specs.Book.{valueOf}
 use Rattle.book.specs.Control.{both, onSome}
-use Rattle.machine.specs.Control.{given}
+use Rattle.machine.specs.Control.{given, onPlain}
 use Rattle.machine.specs.Histories.{sources}
 use Rattle.machine.specs.States.{Traced, State}
 use Rattle.machine.specs.States as States
 use Rattle.machine.specs.Acts.{keep, acted, writeAct, relabelAct, newAct, startAct, execAct}
 use Rattle.machine.specs.Acts as Acts
-use Rattle.machine.specs.Steps.{Turn, summable, turn, stay, moved, gets, addStep, readStep, lowerStep, through, turnOf}
+use Rattle.machine.specs.Steps.{Turn, summable, chosen, turn, stay, moved, gets, addStep, readStep, lowerStep, through, turnOf}
 use Rattle.machine.specs.Events.{tableSize}
 use Rattle.acts.specs.declared.Stored.{Stored}
 use Rattle.acts.specs.declared.Near.{Near}
@@ -108,6 +108,44 @@ module _ (l h : Label) (rs : List Stored) (y : Near) where
   pub start-is : (b : ℕ) (x : Act) → Does launchSort (nearby y) 0 (startAct sources tableSize (nearby y) l h b) x → Takes launchSort (nearby y) (Start b) l h rs x
   unfolding turnOf targetBy
   start-is b x d = record { takes = λ m i. d .does (actor l h rs m i); only = d .only }
+
+  -- v is register r
+  module _ (r a b : ℕ) (v : Stored) (ev : storedOf v ≡ registerIn h rs r) where
+    -- block c is started
+    abbrev starts : ℕ → ℕ → ℕ → Turn Label
+    starts m i c = turn sources (moved sources (actor l h rs m i)) (startAct sources tableSize (nearby y) l h c)
+
+    choosing-is : (m i : ℕ) → turnOf sources tableSize (nearby y) (actor l h rs m i) (Choose r a b)
+        ≡ onPlain (storedOf v .value) (stay sources (actor l h rs m i)) (λ n. starts m i (chosen n a b))
+    unfolding turnOf
+    choosing-is m i =
+        ap (λ (t : Traced Label). onPlain (t .value) (stay sources (actor l h rs m i)) (λ n. starts m i (chosen n a b))) (sym ev)
+
+    pub choose-not : (v .kind ≡ 0 → ⊥) → Takes launchSort (nearby y) (Choose r a b) l h rs Blocked
+    choose-not n = blocked-is (λ m i. choosing-is m i ∙ not-plain (stay sources (actor l h rs m i)) _ (v .number) (v .kind) n)
+
+    module _ (x : Act) (e : v .kind ≡ 0) where
+      choose-one : (c : ℕ) → chosen (v .number) a b ≡ c → Does launchSort (nearby y) 0 (startAct sources tableSize (nearby y) l h c) x
+          → Takes launchSort (nearby y) (Choose r a b) l h rs x
+      unfolding targetBy
+      choose-one c q d =
+          record {
+            takes = λ m i.
+                let z : turnOf sources tableSize (nearby y) (actor l h rs m i) (Choose r a b) ≡ starts m i c
+                = choosing-is m i ∙ is-plain (stay sources (actor l h rs m i)) _ (v .number) (v .kind) e ∙ ap (starts m i) q in
+                d .does (actor l h rs m i) ∙ ap (settled (actor l h rs m i)) (sym z);
+            only = d .only;
+          }
+
+      pub choose-second : v .number ≡ 0 → Does launchSort (nearby y) 0 (startAct sources tableSize (nearby y) l h b) x
+          → Takes launchSort (nearby y) (Choose r a b) l h rs x
+      unfolding chosen given
+      choose-second z d = choose-one b (simp z) d
+
+      pub choose-first : (v .number ≡ 0 → ⊥) → Does launchSort (nearby y) 0 (startAct sources tableSize (nearby y) l h a) x
+          → Takes launchSort (nearby y) (Choose r a b) l h rs x
+      unfolding chosen given
+      choose-first z d = choose-one a (simp (ne-eqb _ _ z)) d
 
   module _ (q : Label) (b : Bool) (eb : b ≡ reaches l q) where
     pub lower-not : b ≡ false → Takes lowerSort (nearby y) (Step.Lower q) l h rs Blocked
@@ -217,3 +255,5 @@ pub ruleset reads = (read-no, read-none, read-done)
 pub ruleset throughs = (write-no, write-shut, write-cell, relabel-no, relabel-cell, exec-no, exec-cell)
 
 pub ruleset lowers = (lower-not, lower-done)
+
+pub ruleset chooses = (choose-not, choose-second, choose-first)

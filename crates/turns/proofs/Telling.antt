@@ -10,11 +10,11 @@ use native.Mathlib.Omega.{arith}
 use Rattle.labels.specs.declared.Label.{Label}
 use Rattle.labels.specs.Labels.{label}
 use Rattle.book.specs.declared.Step.{Step}
-use Rattle.book.specs.declared.Step.the-variants.{Put, Name, Code, Add, New, Read, Write, Relabel, Start, Exec}
+use Rattle.book.specs.declared.Step.the-variants.{Put, Name, Code, Add, New, Read, Write, Relabel, Start, Exec, Choose}
 use Rattle.book.specs.declared.Step.the-variants as Step
 use Rattle.book.specs.Records.{byteAt, numberAt}
 use Rattle.book.specs.Book.{stepAt}
-use Rattle.book.proofs.Decoded.{is-put, is-name, is-code, is-add, is-new, is-read, is-write, is-relabel, is-lower, is-start, is-exec}
+use Rattle.book.proofs.Decoded.{is-put, is-name, is-code, is-add, is-new, is-read, is-write, is-relabel, is-lower, is-start, is-exec, choose-past}
 use Rattle.machine.specs.Histories.{sources}
 use Rattle.machine.specs.Acts.{zeroWith}
 use Rattle.acts.specs.declared.Stored.{Stored}
@@ -44,21 +44,20 @@ first k a b = go (k - 64) refl
     go (suc (suc (suc (suc zero)))) e = new (omega arith)
     go (suc (suc (suc (suc (suc i))))) e = absurd (omega arith)
 
--- a kind from 70 on that names a cell by its first field
-data Through (k : ℕ) : Type 0 where
-  write : k ≡ 70 → Through k
-  relabel : k ≡ 71 → Through k
-  exec : 74 ≤ k → Through k
+-- a kind from 72 on that is not exec
+data Other (k : ℕ) : Type 0 where
+  lower : k ≡ 72 → Other k
+  start : k ≡ 73 → Other k
+  choose : 74 < k → Other k
 
-through : (k : ℕ) → 70 ≤ k → (k ≡ 72 → ⊥) → (k ≡ 73 → ⊥) → Through k
-through k a b c = go (k - 70) refl
+other : (k : ℕ) → 72 ≤ k → (k ≡ 74 → ⊥) → Other k
+other k a b = go (k - 72) refl
   where
-    go : (i : ℕ) → k - 70 ≡ i → Through k
-    go zero e = write (omega arith)
-    go (suc zero) e = relabel (omega arith)
+    go : (i : ℕ) → k - 72 ≡ i → Other k
+    go zero e = lower (omega arith)
+    go (suc zero) e = start (omega arith)
     go (suc (suc zero)) e = absurd (b (omega arith))
-    go (suc (suc (suc zero))) e = absurd (c (omega arith))
-    go (suc (suc (suc (suc i)))) e = exec (omega arith)
+    go (suc (suc (suc i))) e = choose (omega arith)
 
 -- of the kinds that give, read is the last; of those that change a cell, relabel the second
 last : {k : ℕ} → Gives k → (k ≡ 64 → ⊥) → (k ≡ 65 → ⊥) → (k ≡ 66 → ⊥) → (k ≡ 67 → ⊥) → k ≡ 69
@@ -79,12 +78,14 @@ second {k} g a = go (k - 70) refl
     go zero e = absurd (a (omega (arith, g .from)))
     go (suc i) e = omega (arith, g .to)
 
-third : {k : ℕ} → Launches k → (k ≡ 73 → ⊥) → 74 ≤ k
-third {k} g a = go (k - 73) refl
+-- of those that start a job, choose is the last
+third : {k : ℕ} → Launches k → (k ≡ 73 → ⊥) → (k ≡ 74 → ⊥) → 74 < k
+third {k} g a b = go (k - 73) refl
   where
-    go : (i : ℕ) → k - 73 ≡ i → 74 ≤ k
+    go : (i : ℕ) → k - 73 ≡ i → 74 < k
     go zero e = absurd (a (omega (arith, g .from)))
-    go (suc i) e = omega arith
+    go (suc zero) e = absurd (b (omega arith))
+    go (suc (suc i)) e = omega arith
 
 below : (k b : ℕ) → k ≡ b → k < 70 → (k ≡ 69 → ⊥) → b < 69
 below k b e l n = go (69 - b) refl
@@ -92,12 +93,6 @@ below k b e l n = go (69 - b) refl
     go : (i : ℕ) → 69 - b ≡ i → b < 69
     go zero q = absurd (n (omega arith))
     go (suc i) q = omega arith
-
--- past start only exec is left
-exec-past : (s : List ℕ) (o x : ℕ) → x ≡ byteAt s (o + 1) → 74 ≤ byteAt s o → Exec x ≡ stepAt s o
-exec-past s o x ex h =
-    is-exec s o x ex (λ e. omega arith) (λ e. omega arith) (λ e. omega arith) (λ e. omega arith) (λ e. omega arith) (λ e. omega arith) (λ e. omega arith)
-    (λ e. omega arith) (λ e. omega arith) (λ e. omega arith)
 
 -- k is the kind
 module _ (s : List ℕ) (o : ℕ) (h : Label) (rs : List Stored) (x : Stored) (k : ℕ) (ek : k ≡ byteAt s o) where
@@ -117,29 +112,34 @@ module _ (s : List ℕ) (o : ℕ) (h : Label) (rs : List Stored) (x : Stored) (k
         go (add e) = by-step _ (is-add s o _ refl _ refl _ refl e) z
         go (new e) = by-step _ (is-new s o _ refl _ refl _ refl e) z
 
-    pub target-lower : k ≡ 72 → storedOf x ≡ targetIn (stepAt s o) h rs
+    pub target-other : 72 ≤ k → (k ≡ 74 → ⊥) → storedOf x ≡ targetIn (stepAt s o) h rs
     unfolding targetBy
-    target-lower e = by-step _ (is-lower s o _ refl (sym ek ∙ e)) z
-
-    pub target-start : k ≡ 73 → storedOf x ≡ targetIn (stepAt s o) h rs
-    unfolding targetBy
-    target-start e = by-step _ (is-start s o _ refl (sym ek ∙ e)) z
+    target-other a b = go (other (byteAt s o) (omega arith) (λ q. b (ek ∙ q)))
+      where
+        go : Other (byteAt s o) → storedOf x ≡ targetIn (stepAt s o) h rs
+        go (lower e) = by-step _ (is-lower s o _ refl e) z
+        go (start e) = by-step _ (is-start s o _ refl e) z
+        go (choose l) = by-step _ (choose-past s o _ refl _ refl _ refl l) z
 
   module _ (w : ℕ) (ex : storedOf x ≡ registerIn h rs w) where
     pub target-read : w ≡ byteAt s (o + 2) → k ≡ 69 → storedOf x ≡ targetIn (stepAt s o) h rs
     unfolding targetBy
     target-read ew e = by-step _ (is-read s o _ refl w ew (sym ek ∙ e)) ex
 
-    pub target-through : w ≡ byteAt s (o + 1) → 70 ≤ k → (k ≡ 72 → ⊥) → (k ≡ 73 → ⊥) → storedOf x ≡ targetIn (stepAt s o) h rs
-    unfolding targetBy
-    target-through ew a b c = go (through (byteAt s o) (omega arith) (λ q. b (ek ∙ q)) (λ q. c (ek ∙ q)))
-      where
-        go : Through (byteAt s o) → storedOf x ≡ targetIn (stepAt s o) h rs
-        go (write e) = by-step _ (is-write s o w ew _ refl e) ex
-        go (relabel e) = by-step _ (is-relabel s o w ew _ refl e) ex
-        go (exec e) = by-step _ (exec-past s o w ew e) ex
+    module _ (ew : w ≡ byteAt s (o + 1)) where
+      pub target-change : 70 ≤ k → k < 72 → storedOf x ≡ targetIn (stepAt s o) h rs
+      unfolding targetBy
+      target-change a b = go (byteAt s o - 70) refl
+        where
+          go : (i : ℕ) → byteAt s o - 70 ≡ i → storedOf x ≡ targetIn (stepAt s o) h rs
+          go zero e = by-step _ (is-write s o w ew _ refl (omega arith)) ex
+          go (suc i) e = by-step _ (is-relabel s o w ew _ refl (omega arith)) ex
 
-pub ruleset targets = (target-none, target-lower, target-start, target-read, target-through)
+      pub target-exec : k ≡ 74 → storedOf x ≡ targetIn (stepAt s o) h rs
+      unfolding targetBy
+      target-exec e = by-step _ (is-exec s o w ew (sym ek ∙ e)) ex
+
+pub ruleset targets = (target-none, target-other, target-read, target-change, target-exec)
 
 -- a step of a job at label l, with source h and registers rs; v is what it looks at, and r or x the byte behind its kind
 module _ (s : List ℕ) (o : ℕ) (l h : Label) (rs : List Stored) (v : Near) (x : Act) (k : ℕ) (ek : k ≡ byteAt s o) where
@@ -154,8 +154,8 @@ module _ (s : List ℕ) (o : ℕ) (l h : Label) (rs : List Stored) (v : Near) (x
     pub tell-start : k ≡ 73 → Takes launchSort (nearby v) (Start r) l h rs x → Takes launchSort (nearby v) (stepAt s o) l h rs x
     tell-start e t = told launchSort (Start r) (is-start s o r er (sym ek ∙ e)) t
 
-    pub tell-exec : Launches (byteAt s o) → (k ≡ 73 → ⊥) → Takes launchSort (nearby v) (Exec r) l h rs x → Takes launchSort (nearby v) (stepAt s o) l h rs x
-    tell-exec g e t = told launchSort (Exec r) (exec-past s o r er (third g (λ q. e (ek ∙ q)))) t
+    pub tell-exec : k ≡ 74 → Takes launchSort (nearby v) (Exec r) l h rs x → Takes launchSort (nearby v) (stepAt s o) l h rs x
+    tell-exec e t = told launchSort (Exec r) (is-exec s o r er (sym ek ∙ e)) t
 
     pub tell-lower : k ≡ 72 → Takes lowerSort (nearby v) (Step.Lower (label r)) l h rs x → Takes lowerSort (nearby v) (stepAt s o) l h rs x
     tell-lower e t = told lowerSort (Step.Lower (label r)) (is-lower s o r er (sym ek ∙ e)) t
@@ -177,13 +177,17 @@ module _ (s : List ℕ) (o : ℕ) (l h : Label) (rs : List Stored) (v : Near) (x
       pub tell-new : (z : ℕ) → z ≡ byteAt s (o + 3) → k ≡ 68 → Takes createSort (nearby v) (New r y z) l h rs x → Takes createSort (nearby v) (stepAt s o) l h rs x
       tell-new z ez e t = told createSort (New r y z) (is-new s o r er y ey z ez (sym ek ∙ e)) t
 
+      pub tell-choose : (z : ℕ) → z ≡ byteAt s (o + 3) → Launches (byteAt s o) → (k ≡ 73 → ⊥) → (k ≡ 74 → ⊥)
+          → Takes launchSort (nearby v) (Choose r y z) l h rs x → Takes launchSort (nearby v) (stepAt s o) l h rs x
+      tell-choose z ez g a b t = told launchSort (Choose r y z) (choose-past s o r er y ey z ez (third g (λ q. a (ek ∙ q)) (λ q. b (ek ∙ q)))) t
+
       pub tell-write : k ≡ 70 → Takes storeSort (nearby v) (Write r y) l h rs x → Takes storeSort (nearby v) (stepAt s o) l h rs x
       tell-write e t = told storeSort (Write r y) (is-write s o r er y ey (sym ek ∙ e)) t
 
       pub tell-relabel : Changes (byteAt s o) → (k ≡ 70 → ⊥) → Takes storeSort (nearby v) (Relabel r (label y)) l h rs x → Takes storeSort (nearby v) (stepAt s o) l h rs x
       tell-relabel g e t = told storeSort (Relabel r (label y)) (is-relabel s o r er y ey (second g (λ q. e (ek ∙ q)))) t
 
-pub ruleset tells = (tell-put, tell-start, tell-exec, tell-lower, tell-name, tell-code, tell-add, tell-read, tell-new, tell-write, tell-relabel)
+pub ruleset tells = (tell-put, tell-start, tell-exec, tell-choose, tell-lower, tell-name, tell-code, tell-add, tell-read, tell-new, tell-write, tell-relabel)
 
 -- what the target is, for a step that was told apart
 module _ (s : List ℕ) (o : ℕ) (h : Label) (rs : List Stored) (u : Stored) (eu : storedOf u ≡ targetIn (stepAt s o) h rs) (k : ℕ) (ek : k ≡ byteAt s o) where
@@ -191,9 +195,9 @@ module _ (s : List ℕ) (o : ℕ) (h : Label) (rs : List Stored) (u : Stored) (e
   is-target q e = rw e eu
 
   module _ (r : ℕ) (er : r ≡ byteAt s (o + 1)) where
-    pub exec-through : Launches (byteAt s o) → (k ≡ 73 → ⊥) → storedOf u ≡ registerIn h rs r
+    pub exec-through : k ≡ 74 → storedOf u ≡ registerIn h rs r
     unfolding targetBy
-    exec-through g e = is-target _ (exec-past s o r er (third g (λ q. e (ek ∙ q))))
+    exec-through e = is-target _ (is-exec s o r er (sym ek ∙ e))
 
     module _ (y : ℕ) (ey : y ≡ byteAt s (o + 2)) where
       pub read-through : Gives (byteAt s o) → (k ≡ 64 → ⊥) → (k ≡ 65 → ⊥) → (k ≡ 66 → ⊥) → (k ≡ 67 → ⊥)

@@ -56,7 +56,7 @@ pub record Takes (n : ℕ) (s : State Label) (p : Step) (l h : Label) (rs : List
       ≡ settled (actor l h rs b i) (turnOf sources tableSize s (actor l h rs b i) p)
   pub only : Only n x
 
--- kinds of steps: put, name, code, add and read; write and relabel; start and exec
+-- kinds of steps: put, name, code, add and read; write and relabel; start, exec and choose
 pub record Gives (k : ℕ) : Type 0 where
   pub from : putKind ≤ k
   pub to : k < writeKind

@@ -8,7 +8,7 @@ use labels::Label;
 ghost use mathlib.Core.Path.{_≡_};
 ghost use Prim.Native.Nat.{_+_, _≤_};
 ghost use lib.ListN.{length};
-ghost use Rattle.book.specs.declared.Step.the-variants.{Add, New, Read, Write, Relabel, Exec};
+ghost use Rattle.book.specs.declared.Step.the-variants.{Add, New, Read, Write, Relabel, Exec, Choose};
 ghost use Rattle.book.specs.Records.{byteAt};
 ghost use Rattle.book.specs.Book.{stepAt};
 ghost use Rattle.acts.specs.declared.Act.the-variants.{Give};
@@ -129,6 +129,19 @@ fn exec(l: Label, h: Label, registers: [Stored; 8], near: Near, u: Stored, w: u8
     acts::exec_cell(l, h, near, u.number)
 }
 
+fn choose(l: Label, h: Label, registers: [Stored; 8], near: Near, r: u8, a: u8, b: u8) -> Act
+    ensures { λ x. ⌜ Takes launchSort (nearby near) (Choose r a b) l h registers x ⌝ }
+{
+    let v = acts::register_of(h, registers, r);
+    if v.kind != value_kind::PLAIN {
+        return Act::Blocked; // nothing to choose by
+    }
+    if v.number == 0 {
+        return acts::start_job(l, h, near, b as u32);
+    }
+    acts::start_job(l, h, near, a as u32)
+}
+
 // The register that names the cell which the step at an offset reaches, of a job of source h; a plain 0 where the step reaches none.
 pub fn target_of(s: &[u8], o: usize, h: Label, registers: [Stored; 8]) -> Stored
     requires { ⌜ (o ≤ length (now s)) × (64 ≤ byteAt (now s) o) ⌝ }
@@ -142,14 +155,15 @@ pub fn target_of(s: &[u8], o: usize, h: Label, registers: [Stored; 8]) -> Stored
     if k < kind::WRITE {
         return acts::zero_with(h);
     }
-    if k == kind::LOWER {
-        return acts::zero_with(h);
+    if k < kind::LOWER {
+        let named = records::byte(s, o + 1);
+        return acts::register_of(h, registers, named);
     }
-    if k == kind::START {
-        return acts::zero_with(h);
+    if k == kind::EXEC {
+        let run = records::byte(s, o + 1);
+        return acts::register_of(h, registers, run);
     }
-    let named = records::byte(s, o + 1);
-    acts::register_of(h, registers, named)
+    acts::zero_with(h)
 }
 
 // The step at an offset, where it gives a register a value: put, name, code, add, read.
@@ -231,7 +245,7 @@ pub fn lower(s: &[u8], o: usize, l: Label, h: Label, registers: [Stored; 8], nea
     Act::Blocked
 }
 
-// Where it starts a job: start, exec.
+// Where it starts a job: start, exec, choose.
 pub fn launch(
     s: &[u8],
     o: usize,
@@ -249,5 +263,10 @@ pub fn launch(
     if kind == kind::START {
         return acts::start_job(l, h, near, x as u32);
     }
-    exec(l, h, registers, near, u, x)
+    if kind == kind::EXEC {
+        return exec(l, h, registers, near, u, x);
+    }
+    let a = records::byte(s, o + 2);
+    let b = records::byte(s, o + 3);
+    choose(l, h, registers, near, x, a, b)
 }

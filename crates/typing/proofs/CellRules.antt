@@ -1,5 +1,5 @@
 -- Laws of the rules that go by shapes, for the code: what a callee gave stands as a variable with its equation.
---     names, codes, startables, starts, holdings, ons, news, reads, writes, relabels, execs      one set for each
+--     names, codes, startables, starts, chooses, holdings, ons, news, reads, writes, relabels, execs      one set for each
 -- Assumes nothing.
 use mathlib.Core.Path.{_≡_, refl, sym, ap, _∙_}
 use mathlib.Core.Bool.{Bool, true, false}
@@ -24,8 +24,8 @@ use Rattle.typing.specs.declared.Register.{Register}
 use Rattle.typing.specs.declared.State.{State}
 use Rattle.typing.specs.declared.Stepped.{Stepped}
 use Rattle.typing.specs.Shapes.{contentOf, countedTrust, isHighTrust, knownOf, fits}
-use Rattle.typing.specs.Rules.{Typed, passes, stuck, breaks, breaksUnless, stuckUnless, onKnownCell, onKnownCode, registerType, gives, givesLow, used, known, holds}
-use Rattle.typing.specs.Rules.{nameRule, codeRule, newRule, readFrom, readRule, writeRule, relabelRule, execRule, startable, startRule}
+use Rattle.typing.specs.Rules.{Typed, passes, stuck, breaks, breaksUnless, stuckUnless, onKnownCell, onKnownCode, registerType, gives, givesLow, used, known, plainOrLow, holds}
+use Rattle.typing.specs.Rules.{nameRule, codeRule, newRule, readFrom, readRule, writeRule, relabelRule, execRule, startable, startRule, chooseRule}
 use Rattle.typing.specs.Asked.{asLabel, told, cellOn}
 
 -- x is what the code hands back
@@ -78,6 +78,27 @@ module _ (s : State) (bound : Option Label) (x : Stepped) (q : Bool) (eq : q ≡
   start-high n e = e ∙ simp (← eq, n)
 
 pub ruleset starts = (start-low, start-high)
+
+module _ (c : Label) (s : State) (r : ℕ) (first second : Option Label) (x : Stepped) (q : Bool) (eq : q ≡ startable (s .p) first) where
+  pub choose-first : q ≡ false → told s x ≡ breaks → told s x ≡ chooseRule c s r first second
+  unfolding breaksUnless both
+  choose-first n e = e ∙ simp (← eq, n)
+
+  module _ (h : q ≡ true) (w : Bool) (ew : w ≡ startable (s .p) second) where
+    pub choose-second : w ≡ false → told s x ≡ breaks → told s x ≡ chooseRule c s r first second
+    unfolding breaksUnless both
+    choose-second n e = e ∙ simp (← eq, h, ← ew, n)
+
+    module _ (i : w ≡ true) (y : Bool) (ey : y ≡ plainOrLow c s r) where
+      pub choose-not : y ≡ false → told s x ≡ breaks → told s x ≡ chooseRule c s r first second
+      unfolding breaksUnless both
+      choose-not n e = e ∙ simp (← eq, h, ← ew, i, ← ey, n)
+
+      pub choose-passes : y ≡ true → told s x ≡ passes s → told s x ≡ chooseRule c s r first second
+      unfolding breaksUnless both
+      choose-passes n e = e ∙ simp (← eq, h, ← ew, i, ← ey, n)
+
+pub ruleset chooses = (choose-first, choose-second, choose-not, choose-passes)
 
 module _ (c : Label) (shape : ℕ → Shape) (s : State) (a i : ℕ) (y : Shape) (k : Known) (b : Bool) (ey : y ≡ shape i) (ek : k ≡ known c s a)
     (eb : b ≡ fits c shape k (y .content)) where

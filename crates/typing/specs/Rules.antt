@@ -15,9 +15,9 @@ use Rattle.book.specs.declared.Fault.{Fault}
 use Rattle.book.specs.declared.Fault.the-variants.{Nowhere, At}
 use Rattle.book.specs.declared.Shape.{Shape}
 use Rattle.book.specs.declared.Step.{Step}
-use Rattle.book.specs.declared.Step.the-variants.{Put, Name, Add, New, Read, Write, Relabel, Lower, Start, Exec}
+use Rattle.book.specs.declared.Step.the-variants.{Put, Name, Add, New, Read, Write, Relabel, Lower, Start, Exec, Choose}
 use Rattle.book.specs.declared.Step.the-variants as S
-use Rattle.book.specs.Parts.{Reference, toNothing, toCell, toBlock, toCellShape, partsOf}
+use Rattle.book.specs.Parts.{Reference, toNothing, toCell, toBlock, toCellShape, toBlocks, partsOf}
 use Rattle.book.specs.Control.{if_then_else_, both, either, onSome}
 use Rattle.typing.specs.declared.Known.{Known}
 use Rattle.typing.specs.declared.Known.the-variants.{Unknown, Plain, Code, CellOf}
@@ -97,7 +97,7 @@ lowersTo t q = passes (record { p = q; lowered = true; registers = t .registers 
 unfoldable pub lowerRule : Label → State → Label → Typed
 lowerRule c t q = stuckUnless (either (reaches (t .p) q) (isLow c q)) (lowersTo t q)
 
--- "operands of effect above C must be plain"
+-- "operands of effect above C must be plain"; 02, Four: "r must be plain unless its effect is low"
 unfoldable pub plainOrLow : Label → State → ℕ → Bool
 plainOrLow c t a = either (isLow c (registerType t a .effect)) (isPlainly (registerType t a .known))
 
@@ -122,6 +122,7 @@ module _ (c : Label) (shape : ℕ → Shape) where
   exceptHigh (toCell k) x = x
   exceptHigh (toBlock b) x = x
   exceptHigh (toCellShape i) x = breaksUnless (not (isHighTrust c shape i)) x
+  exceptHigh (toBlocks a b) x = x
 
   -- "With P at or below C every step passes, except new with trust above C; results are low." "lower Q, at every P"
   unfoldable pub lowRule : State → Step → Typed
@@ -179,6 +180,10 @@ startable p (some k) = reaches k p
 abbrev pub startRule : State → Option Label → Typed
 startRule t bound = breaksUnless (startable (t .p) bound) (passes t)
 
+-- 02, Four: "With P above C, both bounds must be at least P, and r must be plain unless its effect is low."
+abbrev pub chooseRule : Label → State → ℕ → Option Label → Option Label → Typed
+chooseRule c t r first second = breaksUnless (both (both (startable (t .p) first) (startable (t .p) second)) (plainOrLow c t r)) (passes t)
+
 module _ (B : View) where
   unfoldable pub highRule : State → Step → Typed
   highRule t (Put r n) = gives t r Plain (t .p)
@@ -192,6 +197,7 @@ module _ (B : View) where
   highRule t (Lower q) = lowerRule (B .c) t q
   highRule t (Start b) = startRule t (B .bound b)
   highRule t (Exec w) = execRule (B .c) (B .shape) t w
+  highRule t (Choose r a b) = chooseRule (B .c) t r (B .bound a) (B .bound b)
 
   unfoldable pub stepRule : State → Step → Typed
   stepRule t p = if isLow (B .c) (t .p) then lowRule (B .c) (B .shape) t p else highRule t p

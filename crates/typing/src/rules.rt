@@ -11,7 +11,8 @@ ghost use mathlib.Core.Path.{_≡_};
 ghost use lib.ListN.{getElem?};
 ghost use Rattle.book.specs.Outline.{shapeIn};
 ghost use Rattle.book.specs.Asked.{Sound};
-ghost use Rattle.typing.specs.Rules.{lowersTo, lowerRule, plainOrLow, addRule, known, holds, nameRule, codeRule, newRule, readFrom, readRule, writeRule, relabelRule, execRule, startable, startRule};
+ghost use Rattle.typing.specs.Rules.{lowersTo, lowerRule, plainOrLow, addRule, known, holds, nameRule, codeRule, newRule, readFrom, readRule, writeRule};
+ghost use Rattle.typing.specs.Rules.{relabelRule, execRule, startable, startRule, chooseRule};
 ghost use Rattle.typing.specs.Asked.{asLabel, told, cellOn};
 
 // P is the label from here on.
@@ -112,6 +113,22 @@ pub fn start_step(bounds: &[u8], t: State, b: u8) -> Stepped
     let p = t.p;
     if is_startable(bounds, p, b) {
         return registers::pass(t);
+    }
+    registers::fail(t)
+}
+
+pub fn choose_step(bounds: &[u8], c: Label, t: State, r: u8, a: u8, b: u8) -> Stepped
+    ensures { λ x. ⌜ told t x ≡ chooseRule c t r (asLabel (getElem? (now (bounds .entry)) a)) (asLabel (getElem? (now (bounds .entry)) b)) ⌝ }
+{
+    let p = t.p;
+    if is_startable(bounds, p, a) {
+        if is_startable(bounds, p, b) {
+            if is_plain_or_low(c, t, r) {
+                return registers::pass(t);
+            }
+            return registers::fail(t); // r is not plain, and its effect is not low
+        }
+        return registers::fail(t);
     }
     registers::fail(t)
 }

@@ -34,6 +34,7 @@ fn type_low(shapes: &[u8], c: Label, t: State, p: Step) -> Stepped
         Step::Lower(q) => rules::lower_step(c, t, q),
         Step::Start(_) => registers::pass(t),
         Step::Exec(_) => registers::pass(t),
+        Step::Choose(_, _, _) => registers::pass(t),
     }
 }
 
@@ -57,6 +58,7 @@ fn type_high(shapes: &[u8], shaped: &[u8], bounds: &[u8], c: Label, t: State, p:
         Step::Lower(q) => rules::lower_step(c, t, q),
         Step::Start(b) => rules::start_step(bounds, t, b),
         Step::Exec(w) => rules::exec_step(shapes, c, t, w),
+        Step::Choose(r, a, b) => rules::choose_step(bounds, c, t, r, a, b),
     }
 }
 

@@ -1,5 +1,5 @@
 -- Laws of the tests of one row, from what the code tested. An arm that answers false claims nothing.
---     wrong, over        a test that answers false; a number that is too large
+--     wrong, over, past  a test that answers false; a number that is too large; one past the last
 --     shape-is           a shape row is a cell shape
 --     shapes, values     a shape row; the value of a cell row
 --     steps              a step row, by its kind
@@ -16,13 +16,16 @@ use Rattle.labels.proofs.Impossible.{impossible}
 use Rattle.book.specs.Records.{byteAt}
 use Rattle.rows.specs.Rows.{ShapeRow, rowsFrom, shapeRowIn, shapeRowsIn}
 use Rattle.vetting.specs.Asked.{CellShape, ShapeSound, plainShape, codeShape, cellShape, ValueSound, plain, cell, code, StepSound}
-use Rattle.vetting.specs.Asked.{putStep, nameStep, codeStep, addStep, newStep, readStep, writeStep, relabelStep, lowerStep, startStep, execStep}
+use Rattle.vetting.specs.Asked.{putStep, nameStep, codeStep, addStep, newStep, readStep, writeStep, relabelStep, lowerStep, startStep, execStep, chooseStep}
 
 pub wrong : {X : Type 0} → false ≡ true → X
 wrong e = impossible cc
 
 pub over : {X : Type 0} (x most : ℕ) → most < x → leb x most ≡ true → X
 over x most h e = let a : x ≤ most = leb-true x most e in absurd (omega arith)
+
+pub past : {X : Type 0} (x many : ℕ) → many ≤ x → ltb x many ≡ true → X
+past x many h e = let a : x < many = ltb-true x many e in absurd (omega arith)
 
 -- a row of a table, by its number
 row-there : {A : Type 0} (f : ℕ → A) (n a i : ℕ) (d : A) → i < n → getD (rowsFrom f n a) i d ≡ f (a + i)
@@ -101,4 +104,7 @@ module _ (table : List ShapeRow) (cells blocks k x y z : ℕ) where
   pub exec-row : k ≡ 74 → leb x 7 ≡ true → StepSound table cells blocks k x y z
   exec-row e a = execStep e (leb-true _ _ a)
 
-pub ruleset steps = (put-row, name-row, code-row, add-row, new-row, read-row, write-row, relabel-row, lower-row, start-row, exec-row)
+  pub choose-row : k ≡ 75 → x ≤ 7 → y < blocks → ltb z blocks ≡ true → StepSound table cells blocks k x y z
+  choose-row e a h i = chooseStep e a h (ltb-true _ _ i)
+
+pub ruleset steps = (put-row, name-row, code-row, add-row, new-row, read-row, write-row, relabel-row, lower-row, start-row, exec-row, choose-row)

@@ -19,7 +19,7 @@ use Rattle.book.specs.Refusals.{above, outOfRange, valueNamed, cellNamed, stepN
 use Rattle.rows.specs.Rows.{ShapeRow, CellRow, BlockRow, StepRow, Row, rowOf, cRow, shapeRow, cellRow, blockRow, stepRow}
 use Rattle.rows.proofs.Seen.{rowGroup}
 use Rattle.vetting.specs.Asked.{CellShape, ShapeSound, plainShape, codeShape, cellShape, ValueSound, plain, cell, code, CellSound, BlockSound, StepSound}
-use Rattle.vetting.specs.Asked.{putStep, nameStep, codeStep, addStep, newStep, readStep, writeStep, relabelStep, lowerStep, startStep, execStep}
+use Rattle.vetting.specs.Asked.{putStep, nameStep, codeStep, addStep, newStep, readStep, writeStep, relabelStep, lowerStep, startStep, execStep, chooseStep}
 
 -- the fields of a row: none is above its largest value
 one : (a l : ℕ) → a ≤ l → either (ltb l a) false ≡ false
@@ -104,7 +104,7 @@ module _ (isCellShape : ℕ → Bool) (cells blocks : ℕ) where
         }
 
     step-kind : (m k x y z n : ℕ) → StepSound shapes cells blocks k x y z → Sits 5 m (stepRow (record { kind = k; x = x; y = y; z = z; number = n }))
-    unfolding rowOf group span outOfRange above limits dangling stepNamed stepAt numberAt
+    unfolding rowOf group span outOfRange above limits dangling stepNamed stepAt numberAt both
     step-kind m k x y z n (putStep e a) = rw e (record { of = refl; known = refl; narrow = λ b. more x 7 _ a (number-narrow n); named = λ b. refl })
     step-kind m k x y z n (nameStep e a h) =
         rw e (record { of = refl; known = refl; narrow = λ b. more x 7 _ a (one y 255 (omega arith)); named = λ b. simp (lt-ltb y cells h) })
@@ -121,6 +121,14 @@ module _ (isCellShape : ℕ → Bool) (cells blocks : ℕ) where
     step-kind m k x y z n (startStep e h) =
         rw e (record { of = refl; known = refl; narrow = λ b. one x 255 (omega arith); named = λ b. simp (lt-ltb x blocks h) })
     step-kind m k x y z n (execStep e a) = rw e (record { of = refl; known = refl; narrow = λ b. one x 7 a; named = λ b. refl })
+    step-kind m k x y z n (chooseStep e a h i) =
+        rw e
+        (record {
+          of = refl;
+          known = refl;
+          narrow = λ b. more x 7 _ a (more y 255 _ (omega arith) (one z 255 (omega arith)));
+          named = λ b. simp (lt-ltb y blocks h, lt-ltb z blocks i);
+        })
 
     pub step-sits : (m : ℕ) (r : StepRow) → StepSound shapes cells blocks (r .kind) (r .x) (r .y) (r .z) → Sits 5 m (stepRow r)
     step-sits m r h = step-kind m (r .kind) (r .x) (r .y) (r .z) (r .number) h

@@ -12,7 +12,7 @@ use lib.Dec.{eqb}
 use lib.ListN.{length, getD}
 use Rattle.book.specs.declared.Fault.the-variants.{Nowhere}
 use Rattle.book.specs.Numbers.{plainShapeKind, codeShapeKind, cellShapeKind, putKind, nameKind, codeKind, addKind, newKind, readKind, writeKind, relabelKind}
-use Rattle.book.specs.Numbers.{lowerKind, startKind, execKind, plainValue, cellValue, codeValue, maxLabel, maxRegister, maxShapes, maxCells, maxBlocks, maxSteps}
+use Rattle.book.specs.Numbers.{lowerKind, startKind, execKind, chooseKind, plainValue, cellValue, codeValue, maxLabel, maxRegister, maxShapes, maxCells, maxBlocks, maxSteps}
 use Rattle.book.specs.Refusals.{orderFault, countFault, rangeFault, nameFault}
 use Rattle.rows.specs.Rows.{ShapeRow, CellRow, BlockRow, StepRow, BookTables, rows, bytesOf, total}
 use Rattle.rows.specs.Write.{unknownFault}
@@ -63,6 +63,7 @@ pub data StepSound (shapes : List ShapeRow) (cells blocks k x y z : ℕ) : Type 
   lowerStep : k ≡ lowerKind → x ≤ maxLabel → StepSound shapes cells blocks k x y z
   startStep : k ≡ startKind → x < blocks → StepSound shapes cells blocks k x y z
   execStep : k ≡ execKind → x ≤ maxRegister → StepSound shapes cells blocks k x y z
+  chooseStep : k ≡ chooseKind → x ≤ maxRegister → y < blocks → z < blocks → StepSound shapes cells blocks k x y z
 
 -- each row of a table, by its number
 module _ {A : Type 0} (P : ℕ → A → Type 0) where

@@ -145,6 +145,7 @@ fn is_step_sound(k: u8, x: u8, y: u8, z: u8, shapes: &[u8], cells: usize, blocks
         kind::LOWER => x <= limit::LABEL,
         kind::START => (x as usize) < blocks,
         kind::EXEC => x <= limit::REGISTER,
+        kind::CHOOSE => x <= limit::REGISTER && ((y as usize) < blocks && (z as usize) < blocks),
         _ => false,
     }
 }

@@ -164,7 +164,7 @@ module _ (x y z n : ℕ) (rest : List ℕ) (four-long : length rest ≡ 4) (w : 
                           (λ h. record { long = omega (arith, four-long); fits = omega arith; bytes = refl; known = refl; spare = two }),
                           (
                             (λ h. record { long = omega (arith, four-long); fits = omega arith; bytes = refl; known = refl; spare = two }),
-                            tt,
+                            ((λ h. record { long = omega (arith, four-long); fits = omega arith; bytes = refl; known = refl; spare = four }), tt),
                           ),
                         ),
                       ),

@@ -42,6 +42,7 @@ fn step(fields: Fields) -> Step {
         (72, [label, 0, 0], 0) => Step::Lower { label },
         (73, [block, 0, 0], 0) => Step::Start { block },
         (74, [w, 0, 0], 0) => Step::Exec { w },
+        (75, [r, first, second], 0) => Step::Choose { r, first, second },
         _ => panic!("no record has these fields: {fields:?}"),
     }
 }

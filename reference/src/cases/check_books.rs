@@ -2,6 +2,9 @@
 //! its boundary. They are the same at every call.
 
 pub(crate) mod change;
+#[cfg(test)]
+pub(crate) mod choices;
+mod choose;
 mod declared;
 mod likeness;
 mod lowering;
@@ -40,6 +43,7 @@ pub fn books() -> Vec<Bytes> {
         change::books(),
         unreadable::books(),
         vec![full_book(), mixed_book()],
+        choose::books(),
     ];
     let mut seen = HashSet::new();
     let all = parts.into_iter().flatten();

@@ -62,11 +62,7 @@ pub fn forgetful(book: &[u8], launch: Option<u32>, events: &[u8], lent: &mut Len
 }
 
 /// How large the lively books are.
-const LIVELY: Most = Most {
-    cells: 6,
-    blocks: 5,
-    steps: 12,
-};
+const LIVELY: Most = Most::new(6, 5, 12).with_choose();
 
 /// Mostly a run that is not refused.
 fn any_run(dice: &mut Dice, number: usize) -> Run {
@@ -127,9 +123,10 @@ fn any_lengths(dice: &mut Dice, mut lengths: [usize; 3]) -> [usize; 3] {
 #[cfg(test)]
 mod tests {
     use super::*;
+    use crate::cases::runs::choices::{choices, Choice};
     use crate::cases::runs::sums::{play, TOP};
     use crate::model::book::{read, Book};
-    use crate::model::machine::{check_launch, fast};
+    use crate::model::machine::{check_launch, fast, Datum, Why};
 
     #[test]
     fn the_two_machines_do_not_differ() {
@@ -156,6 +153,32 @@ mod tests {
         }
         println!("{met:?} of 5,000 runs");
         assert!(met.iter().all(|&count| count >= 20), "{met:?}");
+    }
+
+    /// In how many of so many runs a choose is done or blocked: it takes the first block, the
+    /// second, the first or the second by a value that a lower hand has touched, it looks at a cell,
+    /// at code, and no job fits.
+    fn met_choices(count: usize) -> [usize; 7] {
+        let mut met = [0; 7];
+        for run in runs(1).take(count) {
+            let choices = choices(&run);
+            let any = |holds: fn(&Choice) -> bool| usize::from(choices.iter().any(holds));
+            met[0] += any(|one| one.first());
+            met[1] += any(|one| one.second());
+            met[2] += any(|one| one.first() && one.touched);
+            met[3] += any(|one| one.second() && one.touched);
+            met[4] += any(|one| matches!(one.seen, Datum::Cell(_)));
+            met[5] += any(|one| matches!(one.seen, Datum::Code(_)));
+            met[6] += any(|one| one.why == Some(Why::Full));
+        }
+        met
+    }
+
+    #[test]
+    fn chooses_are_met() {
+        let met = met_choices(20_000);
+        println!("{met:?} of 20,000 runs");
+        assert!(met.iter().all(|&count| count >= 10), "{met:?}");
     }
 
     /// In how many of 5,000 runs it holds of the launch and the book, if that can be read.

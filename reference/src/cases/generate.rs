@@ -1,6 +1,7 @@
 //! The test books. They are the same at every call: all chance comes from fixed seeds.
 
 pub(crate) mod chance;
+pub(crate) mod choose;
 mod counts;
 pub(crate) mod dice;
 pub(crate) mod huge;
@@ -33,6 +34,7 @@ pub fn books() -> Vec<Bytes> {
         counts::books(),
         huge::books(),
         samples::books(),
+        choose::books(),
     ];
     parts.concat()
 }

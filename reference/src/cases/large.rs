@@ -48,7 +48,7 @@ const P: u8 = 12;
 const CHAINS: u8 = 4;
 const DEPTHS: u8 = 7;
 
-/// A book with steps of all kinds, none of them stuck, all with P above C.
+/// A book with steps of all kinds that document 01 has, none of them stuck, all with P above C.
 pub fn mixed_book() -> Vec<u8> {
     let mut draft = vec![c(C), plain_shape(), plain_shape()];
     draft.extend([code_shape(P), code_shape(P)]);

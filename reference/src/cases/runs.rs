@@ -3,6 +3,9 @@
 
 mod again;
 pub(crate) mod chance;
+#[cfg(test)]
+pub(crate) mod choices;
+mod choose;
 pub(crate) mod events;
 mod fields;
 pub mod file;
@@ -104,6 +107,7 @@ pub fn all() -> Vec<Run> {
         refused::runs(),
         long::runs(),
         launch::runs(),
+        choose::runs(),
     ];
     parts.concat()
 }

@@ -3,6 +3,7 @@
 
 mod books;
 mod buffers;
+mod choose;
 mod counts;
 mod fields;
 mod kinds;
@@ -70,6 +71,7 @@ pub fn chosen() -> Vec<Write> {
     ];
     let roomy = roomy.into_iter().flatten().map(Write::roomy);
     let all = roomy.chain(buffers::writes()).chain(stages::writes());
+    let all = all.chain(choose::writes());
     let mut seen = HashSet::new();
     all.filter(|write| seen.insert(write.clone())).collect()
 }

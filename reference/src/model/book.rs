@@ -1,5 +1,5 @@
-//! "The job book" of document 01: its records, refusals 1 to 6, and a block's stretch with
-//! refusal 12.
+//! "The job book" of document 01, with the step of 02, Four: its records, refusals 1 to 6, and a
+//! block's stretch with refusal 12.
 
 mod fields;
 pub mod record;
@@ -45,7 +45,8 @@ pub struct DeclaredCell {
     pub number: u32,
 }
 
-/// "Steps, r w a b registers 0 to 7", kinds 64 to 74 in this order.
+/// "Steps, r w a b registers 0 to 7", kinds 64 to 74 in this order; and 02, Four: "Kind 75, choose r,
+/// block, block".
 #[derive(Clone, Copy, Debug, PartialEq, Eq)]
 pub enum Step {
     Put { r: u8, number: u32 },
@@ -59,6 +60,7 @@ pub enum Step {
     Lower { label: u8 },
     Start { block: u8 },
     Exec { w: u8 },
+    Choose { r: u8, first: u8, second: u8 },
 }
 
 impl Step {
@@ -76,6 +78,7 @@ impl Step {
             Step::Lower { .. } => 72,
             Step::Start { .. } => 73,
             Step::Exec { .. } => 74,
+            Step::Choose { .. } => 75,
         }
     }
 
@@ -83,7 +86,7 @@ impl Step {
     pub fn size(self) -> usize {
         match self {
             Step::Put { .. } => 6,
-            Step::Add { .. } | Step::New { .. } => 4,
+            Step::Add { .. } | Step::New { .. } | Step::Choose { .. } => 4,
             Step::Name { .. } | Step::Code { .. } => 3,
             Step::Read { .. } | Step::Write { .. } | Step::Relabel { .. } => 3,
             Step::Lower { .. } | Step::Start { .. } | Step::Exec { .. } => 2,

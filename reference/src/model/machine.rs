@@ -1,5 +1,5 @@
-//! "The machine" of document 01, amended by 02, Two and Three: a run of a readable book on a list
-//! of events, refusals 9 to 11 and 14, and the tables that a run leaves.
+//! "The machine" of document 01, amended by 02, Two to Four: a run of a readable book on a list of
+//! events, refusals 9 to 11 and 14, and the tables that a run leaves.
 
 mod acts;
 mod cause;

@@ -1,4 +1,5 @@
-//! "Typing a block" of document 01: refusals 7 and 8, and the verdict on a book.
+//! "Typing a block" of document 01, with the step of 02, Four: refusals 7 and 8, and the verdict on
+//! a book.
 
 mod rules;
 mod shapes;

@@ -20,4 +20,5 @@ decode-step-spec =
     (λ c. search steps)  -- kind::RELABEL
     (λ c. search steps)  -- kind::LOWER
     (λ c. search steps)  -- kind::START
+    (λ c. search steps)  -- kind::EXEC
     (λ c. search steps))  -- _

@@ -14,7 +14,7 @@ step-row-spec =
     (λ c. search needs) (λ c. search needs) (λ c. search needs) (λ c. search needs) (λ c. search needs)
     (λ c. search needs) (λ c. search needs) (λ c. search needs) (λ c. search needs) (λ c. search needs)
     (λ c. search needs) (λ c. search needs) (λ c. search needs) (λ c. search needs) (λ c. search needs)
-    (λ c. search needs) (λ c. search needs)
+    (λ c. search needs) (λ c. search needs) (λ c. search needs) (λ c. search needs)
     (λ c. search told-step)  -- put
     (λ c. search told-step)  -- name
     (λ c. search told-step)  -- code
@@ -25,4 +25,5 @@ step-row-spec =
     (λ c. search told-step)  -- relabel
     (λ c. search told-step)  -- lower
     (λ c. search told-step)  -- start
-    (λ c. search told-step))  -- exec
+    (λ c. search told-step)  -- exec
+    (λ c. search told-step))  -- choose

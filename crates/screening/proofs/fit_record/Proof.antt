@@ -27,9 +27,10 @@ fit-record-spec =
     (λ c κs. (search needs, fixed _ 72 _ _ _ _ (search needs) tt))
     (λ c κs. (search needs, fixed _ 73 _ _ _ _ (search needs) tt))
     (λ c κs. (search needs, fixed _ 74 _ _ _ _ (search needs) tt))
+    (λ c κs. (search needs, fixed _ 75 _ _ _ _ (search needs) tt))
     -- what is handed back, kind by kind
     (λ c. search needs) (λ c. search needs) (λ c. search needs) (λ c. search needs) (λ c. search needs)
     (λ c. search needs) (λ c. search needs) (λ c. search needs) (λ c. search needs) (λ c. search needs)
     (λ c. search needs) (λ c. search needs) (λ c. search needs) (λ c. search needs) (λ c. search needs)
-    (λ c. search needs) (λ c. search needs)
+    (λ c. search needs) (λ c. search needs) (λ c. search needs)
     (λ c. unfit _ _))

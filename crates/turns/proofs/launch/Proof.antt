@@ -12,4 +12,6 @@ launch-spec =
     (λ c κs. search needs) (λ c. search needs) (λ c κs. search needs) (λ c. search needs) (λ c κs. search needs)
     (λ c. search (tells, start-is, needs))  -- kind == kind::START
     (λ c κs. search (throughs, needs))
-    (λ c. search (tells, start-is, needs)))  -- not (kind == kind::START)
+    (λ c. search (tells, needs))  -- kind == kind::EXEC
+    (λ c. search needs) (λ c κs. search needs) (λ c. search needs) (λ c κs. search needs) (λ c κs. search needs)
+    (λ c. search (tells, needs)))  -- none of these

@@ -12,9 +12,9 @@ target-of-spec =
     (λ c. search (targets, needs))  -- k == kind::READ
     (λ c κs. search needs)
     (λ c. search (targets, needs))  -- k < kind::WRITE
-    (λ c κs. search needs)
-    (λ c. search (targets, needs))  -- k == kind::LOWER
-    (λ c κs. search needs)
-    (λ c. search (targets, needs))  -- k == kind::START
     (λ c. search needs) (λ c κs. search needs) (λ c κs. search needs)
+    (λ c. search (targets, needs))  -- k < kind::LOWER
+    (λ c. search needs) (λ c κs. search needs) (λ c κs. search needs)
+    (λ c. search (targets, needs))  -- k == kind::EXEC
+    (λ c κs. search needs)
     (λ c. search (targets, needs)))  -- none of these

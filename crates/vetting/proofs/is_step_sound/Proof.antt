@@ -1,6 +1,6 @@
 -- `is_step_sound` meets its contract. Assumes nothing.
 use borrow.Author.Needs.{needs}
-use Rattle.vetting.proofs.RowTests.{wrong, over, steps}
+use Rattle.vetting.proofs.RowTests.{wrong, over, past, steps}
 use Rattle.vetting.proofs.is_step_sound.Tie as tie
 use Rattle.vetting.proofs.is_step_sound.Statement.{statement}
 
@@ -29,4 +29,7 @@ is-step-sound-spec =
     (λ c. λ e. search steps)  -- lower
     (λ c. λ e. search steps)  -- start
     (λ c. λ e. search steps)  -- exec
+    (λ c. λ e. search steps)  -- choose
+    (λ c. past _ _ (c .if12 .left))  -- its first block
+    (λ c. over _ _ (c .if11 .left))  -- its register
     (λ c. wrong))  -- no step

@@ -4,24 +4,13 @@
 use super::walk::{any_step, draft, step_record};
 use crate::cases::generate::dice::Dice;
 use crate::cases::generate::records::Draft;
-use crate::cases::generate::valid::Size;
+use crate::cases::generate::valid::{size, Size};
 use crate::cases::generate::Bytes;
 use crate::model::book;
 use crate::model::typing::{check, Verdict};
 
-const SMALL: Size = Size {
-    shapes: 8,
-    cells: 4,
-    blocks: 2,
-    steps: 10,
-};
-
-const MIDDLE: Size = Size {
-    shapes: 12,
-    cells: 6,
-    blocks: 4,
-    steps: 20,
-};
+pub const SMALL: Size = size(8, 4, 2, 10);
+pub const MIDDLE: Size = size(12, 6, 4, 20);
 
 pub fn books() -> Vec<Bytes> {
     let mut dice = Dice::new(0x5EED_0011);
@@ -41,22 +30,23 @@ pub fn broken(dice: &mut Dice, size: Size) -> Bytes {
         if matches!(check(&bytes), Verdict::Refused { .. }) {
             break;
         }
-        bytes = with_another_step(dice, &records);
+        bytes = with_another_step(dice, size, &records);
     }
     bytes
 }
 
-fn with_another_step(dice: &mut Dice, records: &Draft) -> Bytes {
+fn with_another_step(dice: &mut Dice, size: Size, records: &Draft) -> Bytes {
     let book = book::read(&records.concat()).expect("a sound book is readable");
     let mut changed = records.clone();
     let place = dice.pick(&places_of_steps(records));
-    let kind = dice.pick(&CAN_BREAK);
+    let kind = dice.pick(if size.chooses { &CAN_BREAK } else { OF_01 });
     changed[place] = step_record(any_step(dice, &book, kind, 15));
     changed.concat()
 }
 
-/// The kinds of step that can break their rule.
-const CAN_BREAK: [u8; 7] = [67, 68, 69, 70, 71, 73, 74];
+/// The kinds of step that can break their rule. Document 01 has those before choose.
+const CAN_BREAK: [u8; 8] = [67, 68, 69, 70, 71, 73, 74, 75];
+const OF_01: &[u8] = CAN_BREAK.split_at(7).0;
 
 fn places_of_steps(records: &Draft) -> Vec<usize> {
     let places = 0..records.len();

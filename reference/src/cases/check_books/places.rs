@@ -134,7 +134,7 @@ fn stages() -> Vec<Bytes> {
 
 fn with_late_fault(draft: &Draft, stage: u8) -> Bytes {
     let fault = match stage {
-        2 => vec![75],
+        2 => vec![76],
         3 => plain_shape(),
         4 => lower(3).repeat(64),
         5 => lower(16),

@@ -1,5 +1,8 @@
 //! What the file of test books must hold.
 
+mod choose;
+
+use super::choices::{met, Met};
 use super::*;
 use crate::cases::file;
 use crate::model::book::{self, Book, Step};
@@ -23,7 +26,7 @@ fn tally(books: &[Bytes]) -> BTreeMap<u8, usize> {
 fn the_file_is_rich_enough() {
     let books = books();
     let tally = tally(&books);
-    assert!(books.len() >= 5_000 && file::join(&books).len() < 900_000);
+    assert!(books.len() >= 5_000 && file::join(&books).len() < 1_100_000);
     assert!(tally[&0] >= 1_500 && tally[&8] >= 1_500 && tally[&7] >= 200);
     assert_eq!(tally[&1], 1);
     for number in 2..=6 {
@@ -91,10 +94,10 @@ fn seen() -> HashMap<Seen, usize> {
 fn every_kind_of_step_passes_breaks_and_is_stuck_where_it_can() {
     let seen = seen();
     let often = |happened: Seen| seen.get(&happened).copied().unwrap_or(0);
-    for kind in 64..=74 {
+    for kind in 64..=75 {
         assert!(often((true, kind, true, Outcome::Passes)) >= 100, "{kind}");
         assert!(often((true, kind, false, Outcome::Passes)) >= 100, "{kind}");
-        let can_break = [67, 68, 69, 70, 71, 73, 74].contains(&kind);
+        let can_break = [67, 68, 69, 70, 71, 73, 74, 75].contains(&kind);
         let broken = often((false, kind, true, Outcome::Breaks));
         assert_eq!(broken >= 100, can_break, "{kind}");
         assert_eq!(broken == 0, !can_break, "{kind}");
@@ -112,7 +115,7 @@ fn every_kind_of_step_passes_breaks_and_is_stuck_where_it_can() {
 #[test]
 fn steps_stand_behind_stuck_ones() {
     let mut behind = BTreeSet::new();
-    for bytes in stuck::books() {
+    for bytes in [stuck::books(), super::choose::books()].concat() {
         let Ok(book) = book::read(&bytes) else {
             continue;
         };
@@ -125,7 +128,7 @@ fn steps_stand_behind_stuck_ones() {
             }
         });
     }
-    for kind in [67, 68, 69, 70, 71, 73, 74] {
+    for kind in [67, 68, 69, 70, 71, 73, 74, 75] {
         assert!(behind.contains(&kind), "{kind}");
     }
 }

@@ -2,8 +2,8 @@
 
 use crate::cases::generate::dice::Dice;
 use crate::cases::generate::records::{
-    add, block, c, cell, cell_shape, code, code_shape, exec, lower, name, new, plain_shape, put,
-    read, relabel, start, write, Draft,
+    add, block, c, cell, cell_shape, choose, code, code_shape, exec, lower, name, new, plain_shape,
+    put, read, relabel, start, write, Draft,
 };
 use crate::cases::generate::valid::{of_sizes, size, Size};
 use crate::cases::generate::Bytes;
@@ -28,7 +28,7 @@ pub fn books() -> Vec<Bytes> {
 pub fn draft(dice: &mut Dice, size: Size) -> Draft {
     let mut book = declarations(dice, size);
     for number in 0..book.blocks.len() {
-        let steps = steps(dice, &book, number, size.steps);
+        let steps = steps(dice, &book, number, size);
         book.blocks[number].steps = steps;
     }
     records(&book)
@@ -143,12 +143,13 @@ fn cell_shape_number(dice: &mut Dice, book: &Book) -> u8 {
 }
 
 /// Steps of which hardly one is stuck, and none breaks its rule.
-fn steps(dice: &mut Dice, book: &Book, block: usize, most: usize) -> Vec<Step> {
+fn steps(dice: &mut Dice, book: &Book, block: usize, size: Size) -> Vec<Step> {
+    let kinds = if size.chooses { &KINDS[..] } else { OF_01 };
     let rules = Rules::new(book);
     let mut state = rules.start(book.blocks[block].bound);
     let mut steps = Vec::new();
-    for _ in 0..length(dice, most) {
-        let (step, next) = sound_step(dice, rules, state);
+    for _ in 0..length(dice, size.steps) {
+        let (step, next) = sound_step(dice, kinds, rules, state);
         steps.push(step);
         state = next;
     }
@@ -163,10 +164,11 @@ fn length(dice: &mut Dice, most: usize) -> usize {
     }
 }
 
-/// A step that passes, and the state behind it. Few are stuck, and P seldom becomes low.
-fn sound_step(dice: &mut Dice, rules: Rules, state: State) -> (Step, State) {
+/// A step of these kinds that passes, and the state behind it. Few are stuck, and P seldom becomes
+/// low.
+fn sound_step(dice: &mut Dice, kinds: &[u8], rules: Rules, state: State) -> (Step, State) {
     loop {
-        let kind = dice.pick(&KINDS);
+        let kind = dice.pick(kinds);
         for _ in 0..10 {
             let step = any_step(dice, rules.book, kind, state.p);
             let mut next = state;
@@ -180,10 +182,11 @@ fn sound_step(dice: &mut Dice, rules: Rules, state: State) -> (Step, State) {
     }
 }
 
-/// How often each kind of step is tried.
-const KINDS: [u8; 20] = [
-    64, 65, 65, 65, 66, 67, 67, 68, 68, 68, 69, 69, 70, 70, 70, 71, 72, 73, 74, 74,
+/// How often each kind of step is tried. Document 01 has those before choose.
+const KINDS: [u8; 22] = [
+    64, 65, 65, 65, 66, 67, 67, 68, 68, 68, 69, 69, 70, 70, 70, 71, 72, 73, 74, 74, 75, 75,
 ];
+const OF_01: &[u8] = KINDS.split_at(20).0;
 
 pub fn any_step(dice: &mut Dice, book: &Book, kind: u8, p: u8) -> Step {
     let (r, a, b) = (dice.byte_below(8), dice.byte_below(8), dice.byte_below(8));
@@ -214,6 +217,11 @@ pub fn any_step(dice: &mut Dice, book: &Book, kind: u8, p: u8) -> Step {
             label: p.saturating_sub(dice.pick(&[0, 0, 0, 1, 2])),
         },
         73 => Step::Start { block },
+        75 => Step::Choose {
+            r,
+            first: block,
+            second: dice.byte_below(book.blocks.len()),
+        },
         _ => Step::Exec { w: a },
     }
 }
@@ -255,5 +263,6 @@ pub fn step_record(step: Step) -> Bytes {
         Step::Lower { label } => lower(label),
         Step::Start { block } => start(block),
         Step::Exec { w } => exec(w),
+        Step::Choose { r, first, second } => choose(r, first, second),
     }
 }

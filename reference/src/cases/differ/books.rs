@@ -7,8 +7,8 @@ use crate::cases::generate::valid::{self, size, Size};
 use crate::cases::generate::{chance, Bytes};
 use crate::cases::runs::lively;
 
-const SMALL: Size = size(8, 4, 3, 12);
-const LARGE: Size = size(32, 32, 12, 64);
+const SMALL: Size = size(8, 4, 3, 12).with_choose();
+const LARGE: Size = size(32, 32, 12, 64).with_choose();
 
 /// Books without end, the same for the same seed, which must not be 0. They are accepted, near to
 /// that, readable, or damaged.
@@ -49,7 +49,9 @@ fn crowded(dice: &mut Dice) -> Bytes {
 #[cfg(test)]
 mod tests {
     use super::*;
+    use crate::cases::check_books::choices::{met, Met};
     use crate::model::typing::{check, Verdict};
+    use std::collections::BTreeMap;
 
     /// How often each refusal number is given, 0 standing for none.
     fn tally(count: usize) -> [usize; 9] {
@@ -68,5 +70,17 @@ mod tests {
         let tally = tally(20_000);
         assert!(tally.iter().all(|&count| count > 0), "{tally:?}");
         assert!(tally[0] > 3_000 && tally[8] > 3_000, "{tally:?}");
+    }
+
+    /// In 20,000 books chooses pass at high P and at low, and are refused for each cause alone.
+    #[test]
+    fn chooses_of_every_sort_are_met() {
+        let mut tally: BTreeMap<Met, usize> = BTreeMap::new();
+        for met in books(1).take(20_000).flat_map(|book| met(&book)) {
+            *tally.entry(met).or_insert(0) += 1;
+        }
+        println!("{tally:?}");
+        assert_eq!(tally.len(), 7);
+        assert!(tally.values().all(|&count| count >= 100), "{tally:?}");
     }
 }

@@ -11,8 +11,8 @@ use crate::cases::writes::rows::{
 use crate::cases::writes::Write;
 use crate::model::writer::{tables_of, Packed};
 
-const SMALL: Size = size(8, 4, 3, 12);
-const LARGE: Size = size(32, 32, 12, 64);
+const SMALL: Size = size(8, 4, 3, 12).with_choose();
+const LARGE: Size = size(32, 32, 12, 64).with_choose();
 
 /// Tables without end, each with a buffer, the same for the same seed, which must not be 0. They are
 /// those of readable books, the same with something changed, or rows by chance.
@@ -79,7 +79,7 @@ fn any_rows(dice: &mut Dice) -> Packed {
 
 fn any_step(dice: &mut Dice) -> [u8; 8] {
     let fields = [0; 3].map(|_| small_byte(dice));
-    step(64 + dice.byte_below(11), fields, small_number(dice))
+    step(64 + dice.byte_below(12), fields, small_number(dice))
 }
 
 /// Mostly 0, so that many kinds can have it.
@@ -143,7 +143,7 @@ fn change_kind(dice: &mut Dice, tables: &mut Packed) {
     if rows > 0 {
         let row = dice.below(rows) * table.row();
         let kinds = [
-            0, 1, 15, 16, 17, 18, 19, 32, 48, 63, 64, 65, 67, 72, 73, 74, 75,
+            0, 1, 15, 16, 17, 18, 19, 32, 48, 63, 64, 65, 67, 72, 73, 74, 75, 76,
         ];
         table.of_mut(tables)[row] = dice.pick(&kinds);
     }

@@ -62,7 +62,7 @@ fn overlong() -> Vec<Bytes> {
     let noise = (0..=LONGEST).map(|_| dice.byte()).collect();
     let full = full_book(plain_shape()).concat();
     let mut books = vec![wrapped, noise];
-    let heads = [vec![], c(3), c(15), sound, full, vec![75]];
+    let heads = [vec![], c(3), c(15), sound, full, vec![76]];
     let fillers = [plain_shape(), lower(2), vec![0]];
     for (head, filler) in heads.iter().zip(fillers.iter().cycle()) {
         books.push(filled(head, filler, LONGEST + 1));

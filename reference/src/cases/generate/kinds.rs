@@ -4,7 +4,7 @@ use super::records::{broad, small, specimen, with_inserted, with_last, Draft, KI
 use super::{samples, Bytes};
 
 /// Unknown kinds beside the known ones.
-const UNKNOWN: [u8; 10] = [0, 2, 15, 19, 31, 33, 49, 63, 75, 255];
+const UNKNOWN: [u8; 10] = [0, 2, 15, 19, 31, 33, 49, 63, 76, 255];
 
 pub fn books() -> Vec<Bytes> {
     let parts = [

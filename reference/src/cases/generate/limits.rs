@@ -4,7 +4,7 @@ use super::records::{broad, places, small, specimen, with_byte, with_last};
 use super::Bytes;
 
 /// Kind, the field's byte in the record, its largest value.
-const LIMITS: [(u8, usize, u8); 22] = [
+const LIMITS: [(u8, usize, u8); 23] = [
     (1, 1, 14),
     (17, 1, 15),
     (18, 2, 15),
@@ -27,6 +27,7 @@ const LIMITS: [(u8, usize, u8); 22] = [
     (71, 2, 15),
     (72, 1, 15),
     (74, 1, 7),
+    (75, 1, 7),
 ];
 
 pub fn books() -> Vec<Bytes> {

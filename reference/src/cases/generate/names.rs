@@ -67,11 +67,20 @@ fn shapes_named() -> Vec<Bytes> {
     books
 }
 
-/// name, code and start at the last number and beyond.
+/// The numbers that steps name: kind, the field's byte in the record, how many there are.
+const NUMBERS: [(u8, usize, u8); 5] = [
+    (65, 2, CELLS),
+    (66, 2, BLOCKS),
+    (73, 1, BLOCKS),
+    (75, 2, BLOCKS),
+    (75, 3, BLOCKS),
+];
+
+/// name, code, start and choose at the last number and beyond.
 fn numbers_named() -> Vec<Bytes> {
     let broad = broad();
     let mut books = Vec::new();
-    for (kind, byte, count) in [(65, 2, CELLS), (66, 2, BLOCKS), (73, 1, BLOCKS)] {
+    for (kind, byte, count) in NUMBERS {
         for record in places(&broad, kind) {
             for number in [count - 1, count, count + 1, 32, 64, 128, 255] {
                 books.push(with_byte(&broad, record, byte, number));

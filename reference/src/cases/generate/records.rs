@@ -5,9 +5,9 @@ use super::Bytes;
 /// A book as a list of records.
 pub type Draft = Vec<Bytes>;
 
-/// Every kind of record.
-pub const KINDS: [u8; 17] = [
-    1, 16, 17, 18, 32, 48, 64, 65, 66, 67, 68, 69, 70, 71, 72, 73, 74,
+/// Every kind of record; choose, which 02, Four has brought, is the last.
+pub const KINDS: [u8; 18] = [
+    1, 16, 17, 18, 32, 48, 64, 65, 66, 67, 68, 69, 70, 71, 72, 73, 74, 75,
 ];
 
 pub fn c(c: u8) -> Bytes {
@@ -78,6 +78,10 @@ pub fn exec(w: u8) -> Bytes {
     vec![74, w]
 }
 
+pub fn choose(r: u8, first: u8, second: u8) -> Bytes {
+    vec![75, r, first, second]
+}
+
 /// A record of this kind that is sound in a book whose shape 1 is a cell shape and which has a
 /// cell; an unknown kind gets no body.
 pub fn specimen(kind: u8) -> Bytes {
@@ -98,13 +102,14 @@ pub fn specimen(kind: u8) -> Bytes {
         72 => lower(5),
         73 => start(0),
         74 => exec(3),
+        75 => choose(2, 0, 0),
         _ => vec![kind],
     }
 }
 
 /// One step of every kind.
 pub fn every_step() -> Draft {
-    (64..=74).map(specimen).collect()
+    (64..=75).map(specimen).collect()
 }
 
 /// Every group, small: two shapes, a cell, and a block of two steps.
@@ -121,7 +126,7 @@ pub fn small() -> Draft {
 }
 
 /// Three records of every kind except C and block: 9 shapes, 3 cells, 4 blocks of which block 1
-/// is empty.
+/// is empty. The chooses stand last, so that whatever stands before them keeps its place.
 pub fn broad() -> Draft {
     let head = vec![
         c(3),
@@ -139,14 +144,16 @@ pub fn broad() -> Draft {
         cell(8, 0, 1, 2),
         block(12),
     ];
+    let of_01 = every_step()[..11].to_vec();
     let empty_then = vec![block(0), block(15)];
     let parts = [
         head,
-        every_step(),
+        of_01.clone(),
         empty_then,
-        every_step(),
+        of_01.clone(),
         vec![block(3)],
-        every_step(),
+        of_01,
+        vec![specimen(75); 3],
     ];
     parts.concat()
 }

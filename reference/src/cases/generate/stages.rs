@@ -63,7 +63,7 @@ fn late(stage: u8, draft: &mut Draft) {
 /// record, two faults at once.
 fn pairs() -> Vec<Bytes> {
     let faulty: [Bytes; 9] = [
-        vec![75],
+        vec![76],
         c(0),
         plain_shape(),
         cell(1, 9, 0, 5),

@@ -13,8 +13,7 @@ fn tally(numbers: impl Iterator<Item = u8>) -> BTreeMap<u8, usize> {
     tally
 }
 
-fn readings() -> BTreeMap<u8, usize> {
-    let books = books();
+fn readings(books: &[Bytes]) -> BTreeMap<u8, usize> {
     tally(books.iter().map(|book| match book::read(book) {
         Ok(_) => 0,
         Err(refusal) => refusal.number,
@@ -32,7 +31,7 @@ fn enough(number: u8) -> usize {
 
 #[test]
 fn the_file_is_rich_enough() {
-    let readings = readings();
+    let readings = readings(&books());
     assert!(readings.values().sum::<usize>() >= 2_500);
     assert!(readings[&0] >= 300);
     for number in 1..=6 {
@@ -78,6 +77,22 @@ fn the_base_books_are_readable() {
     for book in valid::books() {
         assert!(book::read(&book).is_ok());
     }
+}
+
+/// What the books of chooses are answered, by hand.
+#[test]
+fn each_field_of_a_choose_is_at_fault() {
+    // Three of twelve registers are at most 7; each stands in 3 blocks, with 2 drafts.
+    let registers = readings(&choose::registers());
+    assert_eq!(registers, BTreeMap::from([(0, 3 * 6), (5, 9 * 6)]));
+    // Two of seven numbers exist; the choose stands in 2 blocks, in books of 3 counts.
+    let blocks = readings(&choose::pairs_of_blocks());
+    assert_eq!(blocks, BTreeMap::from([(0, 4 * 6), (6, 45 * 6)]));
+    // In half of the books the choose is beyond 64 steps. Of four in the others one is sound, one
+    // has a register above 7, and two name a block that is not there.
+    let counts = readings(&choose::counts());
+    let expected = BTreeMap::from([(0, 8), (4, 32), (5, 8), (6, 16)]);
+    assert_eq!(counts, expected);
 }
 
 #[test]

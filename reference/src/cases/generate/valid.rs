@@ -2,18 +2,30 @@
 
 use super::dice::Dice;
 use super::records::{
-    add, block, broad, c, cell, cell_shape, code, code_shape, every_step, exec, lower, name, new,
-    plain_shape, put, read, relabel, small, specimen, start, wide, with_last, write, Draft, KINDS,
+    add, block, broad, c, cell, cell_shape, choose, code, code_shape, every_step, exec, lower,
+    name, new, plain_shape, put, read, relabel, small, specimen, start, wide, with_last, write,
+    Draft, KINDS,
 };
 use super::Bytes;
 
-/// The most records of each group.
+/// The most records of each group, and whether a step may be a choose: in the test books that were
+/// drawn before 02, Four none is.
 #[derive(Clone, Copy)]
 pub struct Size {
     pub shapes: usize,
     pub cells: usize,
     pub blocks: usize,
     pub steps: usize,
+    pub chooses: bool,
+}
+
+impl Size {
+    pub const fn with_choose(self) -> Size {
+        Size {
+            chooses: true,
+            ..self
+        }
+    }
 }
 
 /// How many books of each size.
@@ -32,6 +44,7 @@ pub const fn size(shapes: usize, cells: usize, blocks: usize, steps: usize) -> S
         cells,
         blocks,
         steps,
+        chooses: false,
     }
 }
 
@@ -94,7 +107,8 @@ pub fn draft(dice: &mut Dice, size: Size) -> Draft {
     for _ in 0..blocks {
         draft.push(block(dice.byte_below(16)));
         let steps = dice.below(size.steps + 1);
-        draft.extend((0..steps).map(|_| step(dice, &cell_shapes, cells, blocks)));
+        let sorts = if size.chooses { 12 } else { 11 };
+        draft.extend((0..steps).map(|_| step(dice, sorts, &cell_shapes, cells, blocks)));
     }
     draft
 }
@@ -127,9 +141,10 @@ fn declared(dice: &mut Dice, cell_shapes: &[u8], cells: usize, blocks: usize) ->
     }
 }
 
-fn step(dice: &mut Dice, cell_shapes: &[u8], cells: usize, blocks: usize) -> Bytes {
+/// A step of the first so many sorts.
+fn step(dice: &mut Dice, sorts: usize, cell_shapes: &[u8], cells: usize, blocks: usize) -> Bytes {
     let (r, a, b) = (dice.byte_below(8), dice.byte_below(8), dice.byte_below(8));
-    match dice.below(11) {
+    match dice.below(sorts) {
         0 if cells > 0 => name(r, dice.byte_below(cells)),
         1 if !cell_shapes.is_empty() => new(r, dice.pick(cell_shapes), a),
         2 => code(r, dice.byte_below(blocks)),
@@ -140,6 +155,7 @@ fn step(dice: &mut Dice, cell_shapes: &[u8], cells: usize, blocks: usize) -> Byt
         7 => lower(dice.byte_below(16)),
         8 => start(dice.byte_below(blocks)),
         9 => exec(r),
+        11 => choose(r, dice.byte_below(blocks), dice.byte_below(blocks)),
         _ => put(r, dice.number()),
     }
 }

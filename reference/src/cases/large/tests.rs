@@ -26,7 +26,7 @@ fn the_mixed_book_is_accepted() {
 }
 
 #[test]
-fn the_mixed_book_has_all_kinds_of_steps() {
+fn the_mixed_book_has_all_kinds_of_steps_but_choose() {
     let book = book::read(&mixed_book()).unwrap();
     let steps = book.blocks.iter().flat_map(|block| &block.steps);
     let kinds: BTreeSet<_> = steps

@@ -10,17 +10,8 @@ use crate::cases::generate::Bytes;
 use crate::model::book::{self, Shape};
 use crate::model::machine::{check_launch, event, Machine};
 
-const SMALL: Most = Most {
-    cells: 4,
-    blocks: 4,
-    steps: 10,
-};
-
-const LARGE: Most = Most {
-    cells: 12,
-    blocks: 12,
-    steps: 40,
-};
+const SMALL: Most = Most::new(4, 4, 10);
+const LARGE: Most = Most::new(12, 12, 40);
 
 pub fn runs() -> Vec<Run> {
     let mut dice = Dice::new(0x5EED_0020);
@@ -45,7 +36,8 @@ fn run(dice: &mut Dice, number: usize, most: Most, count: usize) -> Run {
 
 /// Mostly a lively book, else one that is accepted, or any readable one.
 pub fn any_book(dice: &mut Dice, number: usize, most: Most) -> Bytes {
-    let size = size(8, most.cells, most.blocks, most.steps);
+    let mut size = size(8, most.cells, most.blocks, most.steps);
+    size.chooses = most.chooses;
     match number % 8 {
         0 | 1 => walk::draft(dice, size).concat(),
         2 => valid::draft(dice, size).concat(),

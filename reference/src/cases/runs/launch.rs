@@ -182,11 +182,7 @@ fn order() -> Vec<Run> {
     runs
 }
 
-const SMALL: Most = Most {
-    cells: 5,
-    blocks: 4,
-    steps: 12,
-};
+const SMALL: Most = Most::new(5, 4, 12);
 
 /// Books by chance with every label up to the bound, one above it, and none: on the same events,
 /// and on events of its own.

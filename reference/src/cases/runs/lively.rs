@@ -3,21 +3,42 @@
 
 use crate::cases::generate::dice::Dice;
 use crate::cases::generate::records::{
-    add, block, c, cell, cell_shape, code, code_shape, exec, lower, name, new, plain_shape, put,
-    read, relabel, start, write, Draft,
+    add, block, c, cell, cell_shape, choose, code, code_shape, exec, lower, name, new, plain_shape,
+    put, read, relabel, start, write, Draft,
 };
 use crate::cases::generate::Bytes;
 
-/// The most cells, blocks and steps in a block behind its first puts, which are up to three.
+/// The most cells, blocks and steps in a block behind its first puts, which are up to three; and
+/// whether a step may be a choose: in the test runs that were drawn before 02, Four none is.
 #[derive(Clone, Copy)]
 pub struct Most {
     pub cells: usize,
     pub blocks: usize,
     pub steps: usize,
+    pub chooses: bool,
 }
 
-/// What steps may name.
+impl Most {
+    pub const fn new(cells: usize, blocks: usize, steps: usize) -> Most {
+        Most {
+            cells,
+            blocks,
+            steps,
+            chooses: false,
+        }
+    }
+
+    pub const fn with_choose(self) -> Most {
+        Most {
+            chooses: true,
+            ..self
+        }
+    }
+}
+
+/// What steps may name, and of how many sorts they are.
 struct World {
+    sorts: usize,
     c: u8,
     shapes: usize,
     cells: usize,
@@ -38,6 +59,7 @@ const FIRST_CELL_SHAPE: usize = 2;
 
 pub fn book(dice: &mut Dice, most: Most) -> Bytes {
     let world = World {
+        sorts: if most.chooses { 18 } else { 16 },
         c: dice.pick(&[0, 1, 2, 3, 3, 5, 8, 14]),
         shapes: 4 + dice.below(4),
         cells: 1 + dice.below(most.cells),
@@ -64,8 +86,10 @@ fn label(dice: &mut Dice, c: u8) -> u8 {
 }
 
 fn declared(dice: &mut Dice, world: &World) -> Bytes {
-    let (kind, number) = match dice.below(3) {
-        0 => (0, dice.operand()),
+    // Where there are chooses, more cells are plain, for what is read from them.
+    let kinds = if world.sorts > 16 { 4 } else { 3 };
+    let (kind, number) = match dice.below(kinds) {
+        0 | 3 => (0, dice.operand()),
         1 => (1, dice.below(world.cells) as u32),
         _ => (2, dice.below(world.blocks) as u32),
     };
@@ -114,7 +138,7 @@ fn step(dice: &mut Dice, world: &World, guesses: &mut [Guess; 8]) -> Bytes {
     let (r, any) = (dice.byte_below(8), dice.byte_below(8));
     let w = register(dice, guesses, Guess::Cell);
     let mut set = |guess: Guess| guesses[usize::from(r)] = guess;
-    match dice.below(16) {
+    match dice.below(world.sorts) {
         0 => {
             set(Guess::Code);
             code(r, dice.byte_below(world.blocks))
@@ -142,6 +166,20 @@ fn step(dice: &mut Dice, world: &World, guesses: &mut [Guess; 8]) -> Bytes {
         12 if dice.below(2) == 0 => lower(dice.byte_below(16)),
         13 => start(dice.byte_below(world.blocks)),
         14 | 15 => exec(w),
+        16 | 17 => chosen(dice, world, guesses),
         _ => put_operand(dice, guesses),
     }
+}
+
+/// A choose by a register that is likely to be plain, or by what has just been read from a cell:
+/// that is often an outsider's.
+fn chosen(dice: &mut Dice, world: &World, guesses: &mut [Guess; 8]) -> Bytes {
+    let blocks = [0; 2].map(|_| dice.byte_below(world.blocks));
+    if dice.below(3) == 0 {
+        return choose(operand_register(dice, guesses), blocks[0], blocks[1]);
+    }
+    let r = dice.byte_below(8);
+    guesses[usize::from(r)] = Guess::Operand;
+    let get = [name(r, dice.byte_below(world.cells)), read(r, r)].concat();
+    [get, choose(r, blocks[0], blocks[1])].concat()
 }

@@ -29,7 +29,7 @@ pub fn runs() -> Vec<Run> {
     ]
 }
 
-/// The largest book with steps of all kinds: 64 jobs that go on to the end.
+/// The largest book with steps of all kinds but choose: 64 jobs that go on to the end.
 fn mixed_run() -> Run {
     let jobs = (0..64).flat_map(|job| steps(job, 65));
     let begin = (0..63).flat_map(|block| start(block % 4, block));
@@ -40,11 +40,7 @@ fn mixed_run() -> Run {
 /// A list by chance of exactly this length, an even number.
 fn by_chance(number: usize, length: usize) -> Run {
     let mut dice = Dice::new(0x5EED_0030 + number as u64);
-    let most = Most {
-        cells: 8,
-        blocks: 16,
-        steps: 60,
-    };
+    let most = Most::new(8, 16, 60);
     let book = any_book(&mut dice, number, most);
     // An event has 3.2 bytes or fewer on the average.
     let mut list = events(&mut dice, &book, at_bound(&book), length / 4);

@@ -1,6 +1,7 @@
 //! What the file of test runs must hold.
 
 mod before;
+mod choose;
 mod claim;
 mod coverage;
 mod launch;
@@ -59,6 +60,7 @@ fn reasons() -> Vec<(u8, Vec<Why>)> {
         (72, vec![LabelAbove]),
         (73, vec![Full]),
         (74, vec![NotACell, NotCode, Full]),
+        (75, vec![NotPlain, Full]),
         (WRITE, [&value[..], &[QAboveC, NoCell, LabelAbove]].concat()),
         (
             RELABEL,
@@ -116,7 +118,7 @@ fn every_refusal_occurs() {
 fn the_file_is_rich_enough_and_not_too_large() {
     let runs = all();
     assert!(runs.len() >= 5_000);
-    assert!(file::join(&runs).len() < 2_500_000);
+    assert!(file::join(&runs).len() < 3_000_000);
     for run in &runs {
         assert!(run.book.len() <= 32_769 && run.events.len() <= 65_537);
         let mut lengths = run.lengths.iter().zip(LONGEST);

@@ -43,7 +43,7 @@ fn short() -> Vec<(Packed, usize)> {
         (least, 4),
         (small(), 22),
         (lowers, 22 + 120),
-        (broad(), 2 + 15 + 24 + 8 + 105),
+        (broad(), 2 + 15 + 24 + 8 + 117),
         (wide(), 2 + 94 + 256 + 128 + 3 * 12),
     ]
 }

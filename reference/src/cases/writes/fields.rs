@@ -35,7 +35,7 @@ impl Field {
 type Fields = (Table, u8, usize, &'static [Field]);
 
 /// All kinds.
-pub const FIELDS: [Fields; 16] = [
+pub const FIELDS: [Fields; 17] = [
     (Table::Shapes, 16, 1, &[Spare, Spare]),
     (Table::Shapes, 17, 1, &[Label, Spare]),
     (Table::Shapes, 18, 1, &[Content, Label]),
@@ -52,6 +52,7 @@ pub const FIELDS: [Fields; 16] = [
     (Table::Steps, 72, 1, &[Label, Spare, Spare]),
     (Table::Steps, 73, 1, &[Block, Spare, Spare]),
     (Table::Steps, 74, 1, &[Register, Spare, Spare]),
+    (Table::Steps, 75, 1, &[Register, Block, Block]),
 ];
 
 /// A field of a row.

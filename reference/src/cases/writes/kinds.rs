@@ -48,11 +48,11 @@ fn pairs() -> Vec<Packed> {
         (Table::Shapes, 8),
         (Table::Steps, 0),
         (Table::Steps, 12),
-        (Table::Steps, 32),
+        (Table::Steps, 35),
     ];
     let mut all = Vec::new();
     for (one, other) in rows.iter().flat_map(|one| rows.map(|other| (one, other))) {
-        for kind in [0, 1, 15, 19, 32, 48, 63, 75, 80, 255] {
+        for kind in [0, 1, 15, 19, 32, 48, 63, 76, 80, 255] {
             let changed = with_byte(&broad, one.0, one.1, 0, kind);
             let own = if other.0 == Table::Shapes { 64 } else { 16 };
             all.push(with_byte(&changed, other.0, other.1, 0, own));

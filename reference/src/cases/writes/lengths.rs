@@ -57,7 +57,15 @@ fn of_declarations(length: usize) -> Vec<Packed> {
 /// Steps of each size; the last block counts them all or, in the second tables, not the last.
 fn of_steps(length: usize) -> Vec<Packed> {
     let mut all = Vec::new();
-    let sizes = [(72, 2), (65, 3), (67, 4), (64, 6), (75, 1), (48, 1)];
+    let sizes = [
+        (72, 2),
+        (65, 3),
+        (67, 4),
+        (64, 6),
+        (75, 4),
+        (76, 1),
+        (48, 1),
+    ];
     for (kind, size) in sizes {
         let mut tables = small();
         let rest = (length - SMALL) % size;
@@ -74,7 +82,7 @@ fn of_steps(length: usize) -> Vec<Packed> {
 /// Wrong kinds in both tables, and wrong counts: every row is counted, the kinds with one byte.
 fn wrong_together(length: usize) -> Packed {
     let mut tables = broad();
-    let bytes = 2 + 15 + 24 + 8 + 3 * 35;
+    let bytes = 2 + 15 + 24 + 8 + 3 * 39;
     let half = (length - bytes) / 2;
     tables.shapes.extend([48, 1, 2].repeat(half));
     let rest = length - bytes - half;

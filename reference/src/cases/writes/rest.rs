@@ -19,7 +19,7 @@ pub fn tables() -> Vec<Packed> {
 fn behind(base: &Packed, table: Table) -> Vec<Packed> {
     let mut all = Vec::new();
     for count in 1..table.row() {
-        for byte in [0, 1, 18, 64, 75, 255] {
+        for byte in [0, 1, 18, 64, 75, 76, 255] {
             let mut tables = base.clone();
             table.of_mut(&mut tables).extend(vec![byte; count]);
             all.push(tables);

@@ -62,6 +62,30 @@ fn the_first_stage_with_a_fault_refuses() {
     assert_eq!(tally.len(), 8);
 }
 
+/// What the rows of a choose with each choice of its fields are answered, by hand.
+#[test]
+fn each_field_of_a_choose_is_at_fault() {
+    let tables = choose::fields();
+    let tally = tally(tables.into_iter().map(Write::roomy));
+    // A register of 2 of 4 is too high, or a number of 5 of 6 is not 0; of 16 pairs of blocks 4 exist.
+    let sound = 2 * 4;
+    let expected = BTreeMap::from([(0, sound), (5, 4 * 16 * 6 - 2 * 16), (6, 2 * 12)]);
+    assert_eq!(tally, expected);
+}
+
+/// 2 for C, 4 for the shapes, 8 for the cell, 4 for the blocks, 8 for two chooses.
+#[test]
+fn two_chooses_have_eight_bytes() {
+    let short = choose::writes()
+        .into_iter()
+        .filter(|case| case.length == 25);
+    let full = choose::writes()
+        .into_iter()
+        .filter(|case| case.length == 26);
+    assert_eq!(tally(short)[&13], 1);
+    assert_eq!(tally(full)[&0], 1);
+}
+
 fn with_blocks(blocks: &[[u8; 5]], steps: usize) -> Packed {
     Packed {
         blocks: blocks.concat(),

@@ -47,6 +47,7 @@ fn step_within_limits(step: Step) -> bool {
         Step::Lower { label } => label <= TOP_LABEL,
         Step::Start { .. } => true,
         Step::Exec { w } => registers(&[w]),
+        Step::Choose { r, .. } => registers(&[r]),
     }
 }
 
@@ -118,12 +119,15 @@ impl Book {
         }
     }
 
-    /// Whether the shape, cell or block that a step names is there.
+    /// Whether the shape, cell or blocks that a step names are there.
     fn names_exist(&self, step: Step) -> bool {
         match step {
             Step::Name { cell, .. } => self.has_cell(cell.into()),
             Step::Code { block, .. } | Step::Start { block } => self.has_block(block.into()),
             Step::New { shape, .. } => self.has_cell_shape(shape),
+            Step::Choose { first, second, .. } => {
+                self.has_block(first.into()) && self.has_block(second.into())
+            }
             _ => true,
         }
     }

@@ -79,6 +79,7 @@ fn decode_step(rest: &[u8]) -> Option<(Step, usize)> {
         [72, label, ..] => Some((Step::Lower { label }, 2)),
         [73, block, ..] => Some((Step::Start { block }, 2)),
         [74, w, ..] => Some((Step::Exec { w }, 2)),
+        [75, r, first, second, ..] => Some((Step::Choose { r, first, second }, 4)),
         _ => None,
     }
 }

@@ -1,4 +1,4 @@
-//! Expectations derived by hand from document 01.
+//! Expectations derived by hand from document 01, and from 02, Four.
 
 mod fields;
 
@@ -95,7 +95,7 @@ fn samples_a12_to_a14_are_refused() {
 #[test]
 fn every_step_is_read() {
     let steps = "40 07 78 56 34 12  41 06 00  42 05 01  43 01 02 03  44 04 01 02  45 03 04 \
-                 46 02 05  47 01 0F  48 0E  49 01  4A 07";
+                 46 02 05  47 01 0F  48 0E  49 01  4A 07  4B 06 01 00";
     let head = "01 00  11 0F  12 00 0E  20 01 0D 02 01 00 00 00  30 0C  30 0B ";
     let book = read(&hex(&[head, steps].concat())).unwrap();
     let expected = vec![
@@ -117,10 +117,15 @@ fn every_step_is_read() {
         Step::Lower { label: 14 },
         Step::Start { block: 1 },
         Step::Exec { w: 7 },
+        Step::Choose {
+            r: 6,
+            first: 1,
+            second: 0,
+        },
     ];
     assert_eq!(book.shapes[0], Shape::Code { bound: 15 });
     assert_eq!((book.blocks[0].start, book.blocks[0].length), (17, 0));
-    assert_eq!((book.blocks[1].start, book.blocks[1].length), (19, 35));
+    assert_eq!((book.blocks[1].start, book.blocks[1].length), (19, 39));
     assert_eq!(book.blocks[1].steps, expected);
 }
 
@@ -138,7 +143,7 @@ fn refusal_1_comes_before_all_others() {
 #[test]
 fn refusal_2_is_at_the_record_with_the_unknown_kind_or_the_cut_body() {
     for kind in 0..=255 {
-        let known = [1, 16, 17, 18, 32, 48].contains(&kind) || (64..=74).contains(&kind);
+        let known = [1, 16, 17, 18, 32, 48].contains(&kind) || (64..=75).contains(&kind);
         let book = [&hex("01 03 30 05")[..], &[kind], &[0; 7]].concat();
         let refusal = Refusal {
             number: 2,
@@ -152,6 +157,10 @@ fn refusal_2_is_at_the_record_with_the_unknown_kind_or_the_cut_body() {
     assert_refused("01 03 20 00 00 00 00 00 00", 2, 2);
     assert_refused("01 03 30 05 40 00 01 02 03", 2, 4);
     assert_refused("01 03 30 05 48", 2, 4);
+    for cut in ["4B", "4B 00", "4B 00 00"] {
+        assert_refused(&["01 03 30 05", cut].join(" "), 2, 4);
+    }
+    assert_refused("01 03 30 05 4B 00 00 00 4C", 2, 8);
 }
 
 #[test]
@@ -184,6 +193,8 @@ fn refusal_3_out_of_order() {
     assert_refused("01 03 30 00 01 03", 3, 4);
     assert_refused("01 03 30 00 48 00 01 03", 3, 6);
     assert_refused("01 03 48 00 30 00", 3, 2);
+    assert_refused("01 03 4B 00 00 00 30 00", 3, 2);
+    assert_refused("4B 00 00 00 30 00", 3, 0);
     assert_refused("01 03 10 48 00 30 00", 3, 3);
     assert_refused("01 03 20 00 00 00 00 00 00 00 48 00 30 00", 3, 10);
     assert_refused("01 03 20 00 00 00 00 00 00 00 10 30 00", 3, 10);
@@ -230,9 +241,15 @@ fn refusal_4_counts_steps_in_each_block() {
     assert!(read(&two).is_ok());
     let last = 2 + 130 + 130;
     assert_bytes_refused(&[&two[..], &[72, 0]].concat(), 4, last);
+    assert_bytes_refused(&[&two[..], &[75, 0, 0, 0]].concat(), 4, last);
     // The 65th step's own fault belongs to a later stage.
+    assert_bytes_refused(&[&two[..], &[75, 8, 2, 2]].concat(), 4, last);
     assert_bytes_refused(&[&two[..], &[72, 16]].concat(), 4, last);
     assert!(read(&[&two[..], &[48, 0, 72, 0]].concat()).is_ok());
+    // 64 steps of 4 bytes each, and one more.
+    assert!(read(&repeated("01 03 30 00", "4B 00 00 00", 64, "30 00")).is_ok());
+    let chooses = repeated("01 03 30 00", "4B 00 00 00", 65, "30 00");
+    assert_bytes_refused(&chooses, 4, 4 + 64 * 4);
 }
 
 #[test]
@@ -262,6 +279,9 @@ fn a_block_is_handed_back() {
     assert_eq!(stretch(&blocks, 1), Ok((8, 0)));
     assert_eq!(stretch(&blocks, 2), Ok((10, 4)));
     assert_eq!(stretch(&blocks, 3), Err(Refusal { number: 12, place }));
+    let chooses = hex("01 03 30 00 4B 00 01 00 30 00 48 01 4B 07 00 01");
+    assert_eq!(stretch(&chooses, 0), Ok((4, 4)));
+    assert_eq!(stretch(&chooses, 1), Ok((10, 6)));
 }
 
 #[test]

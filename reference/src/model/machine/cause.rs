@@ -8,6 +8,8 @@ pub enum Why {
     SecondNotPlain,
     /// Both are plain, and their exact sum is 4,294,967,296 or more.
     SumPassesTop,
+    /// The register that choose looks at is not plain.
+    NotPlain,
     /// The register is not a cell.
     NotACell,
     /// The cell does not hold code.
@@ -35,7 +37,7 @@ impl Why {
     fn answer(self) -> u8 {
         match self {
             Why::FirstNotPlain | Why::SecondNotPlain | Why::SumPassesTop => 1,
-            Why::NotACell | Why::NotCode => 1,
+            Why::NotPlain | Why::NotACell | Why::NotCode => 1,
             Why::LabelAbove | Why::NewLabelAbove | Why::Full => 1,
             Why::NoStepLeft => 2,
             Why::NoJob | Why::NoCell | Why::NoBlock | Why::NoShape => 3,

@@ -56,6 +56,17 @@ impl Job {
         Ok(())
     }
 
+    /// 02, Four: "it starts the first block if r is plain and not 0, the second if r is plain 0, and
+    /// is blocked otherwise". It gives the block. What is started has "the chooser's label, and its
+    /// history is the chooser's alone": that of r plays no part.
+    fn choice(&self, r: u8, first: u8, second: u8) -> Result<u8, Why> {
+        match self.plain_in(r) {
+            None => Err(Why::NotPlain),
+            Some(0) => Ok(second),
+            Some(_) => Ok(first),
+        }
+    }
+
     /// "lower Q: blocked if Q is above the job's label; else the label is Q, appended to the
     /// job's history."
     fn lower(&mut self, label: u8) -> Act {
@@ -119,6 +130,10 @@ impl Machine<'_> {
             Step::Exec { w } => {
                 let cell = job.cell_in(w)?;
                 self.exec(actor, cell)?;
+            }
+            Step::Choose { r, first, second } => {
+                let block = job.choice(r, first, second)?;
+                self.start(actor, block.into())?;
             }
         }
         Ok(())

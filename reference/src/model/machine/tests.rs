@@ -1,5 +1,6 @@
 //! Expectations derived by hand from document 01, and from 02 where it amends the machine.
 
+mod choose;
 mod events;
 mod launch;
 mod refusals;

@@ -124,10 +124,9 @@ impl<'b> Rules<'b> {
             Step::Write { w, a } => self.write(state, w, a),
             Step::Relabel { w, label } => self.relabel(state, w, label),
             Step::Lower { label } => self.lower(state, label),
-            Step::Start { block } => {
-                passes_if(self.book.blocks[usize::from(block)].bound >= state.p)
-            }
+            Step::Start { block } => passes_if(self.reaches(state, block)),
             Step::Exec { w } => self.exec(state, w),
+            Step::Choose { r, first, second } => self.choose(state, r, first, second),
         }
     }
 
@@ -137,12 +136,15 @@ impl<'b> Rules<'b> {
         Outcome::Passes
     }
 
+    /// "operands of effect above C must be plain".
+    fn plain_or_low(self, operand: Register) -> bool {
+        self.shapes.is_low(operand.effect) || operand.shape == Known::Plain
+    }
+
     /// "add: operands of effect above C must be plain; least effect."
     fn add(self, state: &mut State, r: u8, a: u8, b: u8) -> Outcome {
         let (a, b) = (state.register(a), state.register(b));
-        let sound =
-            |operand: Register| self.shapes.is_low(operand.effect) || operand.shape == Known::Plain;
-        if !sound(a) || !sound(b) {
+        if !self.plain_or_low(a) || !self.plain_or_low(b) {
             return Outcome::Breaks;
         }
         let least = state.used(a).min(state.used(b));
@@ -223,5 +225,17 @@ impl<'b> Rules<'b> {
             return Outcome::Breaks;
         };
         passes_if(bound >= state.p && trust >= state.p)
+    }
+
+    /// "start: the block's bound is at least P."
+    fn reaches(self, state: &State, block: u8) -> bool {
+        self.book.blocks[usize::from(block)].bound >= state.p
+    }
+
+    /// 02, Four: "With P above C, both bounds must be at least P, and r must be plain unless its
+    /// effect is low."
+    fn choose(self, state: &State, r: u8, first: u8, second: u8) -> Outcome {
+        let both = self.reaches(state, first) && self.reaches(state, second);
+        passes_if(both && self.plain_or_low(state.register(r)))
     }
 }

@@ -1,5 +1,6 @@
-//! Expectations derived by hand from document 01.
+//! Expectations derived by hand from document 01, and from 02, Four.
 
+mod choose;
 mod steps;
 
 use super::*;
@@ -123,7 +124,8 @@ fn refusals_1_to_6_come_first() {
     assert_refused(&[head, "49 01"].concat(), 6, 18);
     assert_refused(&[head, "48 10"].concat(), 5, 18);
     assert_refused(&[head, "10"].concat(), 3, 18);
-    assert_refused(&[head, "4B"].concat(), 2, 18);
+    assert_refused(&[head, "4C"].concat(), 2, 18);
+    assert_refused(&[head, "4B 00 00"].concat(), 2, 18);
     assert_refused(head, 7, 6);
 }
 

@@ -48,6 +48,7 @@ fn step_row(step: Step) -> [u8; 8] {
         Step::Lower { label } => (label, 0, 0, 0),
         Step::Start { block } => (block, 0, 0, 0),
         Step::Exec { w } => (w, 0, 0, 0),
+        Step::Choose { r, first, second } => (r, first, second, 0),
     };
     let [n0, n1, n2, n3] = number.to_le_bytes();
     [step.kind(), x, y, z, n0, n1, n2, n3]

@@ -54,7 +54,7 @@ impl Output<'_> {
                 let [n0, n1, n2, n3] = number(row).to_le_bytes();
                 self.push([64, x, n0, n1, n2, n3]);
             }
-            67 | 68 => self.push([kind, x, y, z]),
+            67 | 68 | 75 => self.push([kind, x, y, z]),
             72..=74 => self.push([kind, x]),
             _ => self.push([kind, x, y]),
         }

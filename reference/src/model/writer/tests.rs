@@ -75,7 +75,7 @@ fn every_record_is_written_and_taken_apart() {
     let book = hex(
         "01 00  11 0F  12 00 0E  10  20 01 0D 02 01 00 00 00  20 01 00 00 04 03 02 01  30 0C  30 0B \
          40 07 78 56 34 12  41 06 00  42 05 01  43 01 02 03  44 04 01 02  45 03 04 \
-         46 02 05  47 01 0F  48 0E  49 01  4A 07  30 00  48 00",
+         46 02 05  47 01 0F  48 0E  49 01  4A 07  4B 06 02 01  30 00  48 00",
     );
     let tables = tables_of(&book).unwrap();
     assert_eq!(tables.shapes, hex("11 0F 00  12 00 0E  10 00 00"));
@@ -83,13 +83,14 @@ fn every_record_is_written_and_taken_apart() {
         tables.cells,
         hex("01 0D 02 01 00 00 00  01 00 00 04 03 02 01")
     );
-    let blocks = hex("0C 00 00 00 00  0B 0B 00 00 00  00 01 00 00 00");
+    let blocks = hex("0C 00 00 00 00  0B 0C 00 00 00  00 01 00 00 00");
     assert_eq!(tables.blocks, blocks);
     let steps = hex("40 07 00 00 78 56 34 12  41 06 00 00 00 00 00 00  42 05 01 00 00 00 00 00");
     assert_eq!(tables.steps[..24], steps);
     let steps = hex("43 01 02 03 00 00 00 00  44 04 01 02 00 00 00 00  45 03 04 00 00 00 00 00");
     assert_eq!(tables.steps[24..48], steps);
-    assert_eq!(tables.steps.len(), 12 * 8);
+    let steps = hex("4B 06 02 01 00 00 00 00  48 00 00 00 00 00 00 00");
+    assert_eq!(tables.steps[11 * 8..], steps);
     assert_eq!(written(&tables, book.len()), Ok(book));
 }
 
@@ -108,7 +109,7 @@ fn bytes_behind_the_last_whole_row_are_no_row() {
     tables.shapes.extend([18, 255]);
     tables.cells.extend([255; 6]);
     tables.blocks.extend([255; 4]);
-    tables.steps.extend([75; 7]);
+    tables.steps.extend([76; 7]);
     assert_eq!(written(&tables, 28), Ok(hex(A)));
     // A cell shape that is no row cannot be named.
     tables.cells[0] = 2;

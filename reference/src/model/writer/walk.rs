@@ -158,16 +158,25 @@ impl<'t> Walk<'t> {
         match row[0] {
             64 => self.record(6, registers(x) && y | z == 0, true),
             65 => self.record(3, registers(x) && spare(z), usize::from(y) < self.cells),
-            66 => self.record(3, registers(x) && spare(z), usize::from(y) < self.blocks),
+            66 => self.record(3, registers(x) && spare(z), self.has_block(y)),
             67 => self.record(4, registers(x | y | z) && spare(0), true),
             68 => self.record(4, registers(x | z) && spare(0), self.has_cell_shape(y)),
             69 | 70 => self.record(3, registers(x | y) && spare(z), true),
             71 => self.record(3, registers(x) && y <= TOP_LABEL && spare(z), true),
             72 => self.record(2, x <= TOP_LABEL && spare(y | z), true),
-            73 => self.record(2, spare(y | z), usize::from(x) < self.blocks),
+            73 => self.record(2, spare(y | z), self.has_block(x)),
             74 => self.record(2, registers(x) && spare(y | z), true),
+            75 => self.record(
+                4,
+                registers(x) && spare(0),
+                self.has_block(y) && self.has_block(z),
+            ),
             _ => self.unknown(),
         }
+    }
+
+    fn has_block(&self, block: u8) -> bool {
+        usize::from(block) < self.blocks
     }
 
     fn has_cell_shape(&self, shape: u8) -> bool {

@@ -50,8 +50,9 @@ fn unreadable(kind: u8) -> (String, &'static str) {
 
 /// "Kinds in decimal."
 fn name(kind: u8) -> Option<&'static str> {
-    const STEPS: [&str; 11] = [
+    const STEPS: [&str; 12] = [
         "put", "name", "code", "add", "new", "read", "write", "relabel", "lower", "start", "exec",
+        "choose",
     ];
     match kind {
         1 => Some("C"),
@@ -122,6 +123,7 @@ fn unnamed(content: &Content) -> &'static str {
         Content::Cell(_) => "the shape is no cell shape, or the value names what does not exist",
         Content::Step(Step::New { .. }) => "the shape is no cell shape",
         Content::Step(Step::Name { .. }) => "the cell does not exist",
+        Content::Step(Step::Choose { .. }) => "a block does not exist",
         _ => "the block does not exist",
     }
 }

@@ -88,7 +88,7 @@ fn fault(bytes: &[u8]) -> String {
 fn every_kind_of_record() {
     let words = "01 02  10  11 0F  12 01 0E  20 02 0D 01 00 00 00 00  20 02 0D 02 00 01 00 00
         30 0C  40 01 FF FF FF FF  41 02 03  42 04 05  43 06 07 08  44 01 02 03  45 04 05  46 06 07
-        47 01 0A  48 0B  49 0C  4A 02  63";
+        47 01 0A  48 0B  49 0C  4A 02  4B 03 04 05  63";
     let text = text(&hex(words));
     let words: Vec<&str> = text.lines().map(|line| &line[7..]).collect();
     let expected = [
@@ -110,10 +110,11 @@ fn every_kind_of_record() {
         "  step 8   lower   11",
         "  step 9   start   block 12",
         "  step 10  exec    r2",
+        "  step 11  choose  r3, block 4, block 5",
         "kind 99  <- refused 2: no record has this kind",
     ];
-    assert_eq!(words[..19], expected);
-    assert_eq!(text.lines().last(), Some("refused 2 at 61"));
+    assert_eq!(words[..20], expected);
+    assert_eq!(text.lines().last(), Some("refused 2 at 65"));
 }
 
 #[test]
@@ -143,7 +144,14 @@ fn refusals_with_their_reason() {
     assert_eq!(marked("01 0F 30 00"), "5: C is above 14");
     assert_eq!(marked("01 00 30 10"), "5: the bound is above 15");
     assert_eq!(marked("01 00 30 00 4A 08"), "5: a register is above 7");
+    assert_eq!(
+        marked("01 00 30 00 4B 08 00 00"),
+        "5: a register is above 7"
+    );
     assert_eq!(marked("01 00 30 00 49 01"), "6: the block does not exist");
+    let no_block = "6: a block does not exist";
+    assert_eq!(marked("01 00 30 00 4B 00 01 00"), no_block);
+    assert_eq!(marked("01 00 30 00 4B 00 00 01"), no_block);
     let no_shape = "6: the shape is no cell shape";
     assert_eq!(marked("01 00 30 00 44 00 00 00"), no_shape);
     let broken = A.replace("46 00 01", "47 00 08");
@@ -154,4 +162,8 @@ fn refusals_with_their_reason() {
 fn a_cut_record_is_named() {
     let line = "4  kind 70 (write)  <- refused 2: the book ends inside the record";
     assert_eq!(fault(&hex("01 00 30 00 46 00")), line);
+    let line = "4  kind 75 (choose)  <- refused 2: the book ends inside the record";
+    assert_eq!(fault(&hex("01 00 30 00 4B 00 00")), line);
+    let line = "4  kind 76  <- refused 2: no record has this kind";
+    assert_eq!(fault(&hex("01 00 30 00 4C 00 00")), line);
 }

@@ -70,5 +70,7 @@ mod tests {
         assert_eq!(told("01 00 30 00 30 10"), above);
         let put = "a register is above 7: block 1, step 0: put r8, 7";
         assert_eq!(told("01 00 30 00 30 00 40 08 07 00 00 00"), put);
+        let choose = "a block does not exist: block 0, step 0: choose r0, block 0, block 1";
+        assert_eq!(told("01 00 30 00 4B 00 00 01"), choose);
     }
 }

@@ -74,5 +74,8 @@ fn step_fields(step: Step) -> (&'static str, String) {
         Step::Lower { label } => ("lower", label.to_string()),
         Step::Start { block } => ("start", format!("block {block}")),
         Step::Exec { w } => ("exec", format!("r{w}")),
+        Step::Choose { r, first, second } => {
+            ("choose", format!("r{r}, block {first}, block {second}"))
+        }
     }
 }

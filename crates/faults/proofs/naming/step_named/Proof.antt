@@ -2,7 +2,7 @@
 use mathlib.Core.Path.{refl}
 use borrow.Author.Needs.{needs}
 use Rattle.book.specs.Refusals.{stepNamed}
-use Rattle.book.proofs.NameFaults.{step-is}
+use Rattle.book.proofs.NameFaults.{step-is, step-first, step-second}
 use Rattle.faults.proofs.naming.step_named.Tie as tie
 use Rattle.faults.proofs.naming.step_named.Statement.{statement}
 
@@ -14,6 +14,7 @@ step-named-spec =
     (λ c. search needs) (λ c. search needs) (λ c. search needs) (λ c. search needs) (λ c. search needs)
     (λ c. search needs) (λ c. search needs) (λ c κs. search needs) (λ c. search needs) (λ c. search needs)
     (λ c. search needs) (λ c. search needs) (λ c. search needs) (λ c. search needs) (λ c. search needs)
+    (λ c. search needs) (λ c. search needs) (λ c. search needs)
     (λ c. search (step-is, refl))  -- Step::Put(_, _)
     (λ c. search (step-is, refl))  -- Step::Name(_, k)
     (λ c. search (step-is, refl))  -- Step::Code(_, b)
@@ -24,4 +25,6 @@ step-named-spec =
     (λ c. search (step-is, refl))  -- Step::Relabel(_, _)
     (λ c. search (step-is, refl))  -- Step::Lower(_)
     (λ c. search (step-is, refl))  -- Step::Start(b)
-    (λ c. search (step-is, refl)))  -- Step::Exec(_)
+    (λ c. search (step-is, refl))  -- Step::Exec(_)
+    (λ c. search step-second)  -- Step::Choose(_, a, b): a exists
+    (λ c. search step-first))  -- it does not

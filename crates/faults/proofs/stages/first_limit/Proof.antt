@@ -9,8 +9,8 @@ pub first-limit-spec : {M : Type 1} → statement M
 first-limit-spec =
     tie.close
     (tie.spec
-    (λ c. limit-between 0 75 255 255 tt _ (search needs) (omega arith) (omega arith))
-    (λ c. limit-between 0 74 74 7 tt _ (search needs) (omega arith) (omega arith))
+    (λ c. limit-between 0 76 255 255 tt _ (search needs) (omega arith) (omega arith))
+    (λ c. limit-between 0 74 75 7 tt _ (search needs) (omega arith) (omega arith))
     (λ c. limit-between 0 73 73 255 tt _ (search needs) (omega arith) (omega arith))
     (λ c. limit-between 0 72 72 15 tt _ (search needs) (omega arith) (omega arith))
     (λ c. limit-between 0 64 71 7 tt _ (search needs) (omega arith) (omega arith))

@@ -7,8 +7,8 @@ pub group-of-spec : {M : Type 1} → statement M
 group-of-spec =
     tie.close
     (tie.spec
-    (λ c. search groups)  -- kind <= kind::EXEC
-    (λ c. search groups)  -- not (kind <= kind::EXEC)
+    (λ c. search groups)  -- kind <= kind::CHOOSE
+    (λ c. search groups)  -- not (kind <= kind::CHOOSE)
     (λ c. search groups)  -- kind == kind::BLOCK
     (λ c. search groups)  -- kind == kind::CELL
     (λ c. search groups)  -- kind <= kind::CELL_SHAPE

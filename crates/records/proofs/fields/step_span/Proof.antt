@@ -10,8 +10,9 @@ step-span-spec =
     tie.close
     (tie.spec
     (λ c. span-between 64 64 6 tt _ (search needs) (omega arith) (omega arith))
-    (λ c. span-between 75 255 0 tt _ (search needs) (omega arith) (omega arith))
     (λ c. span-between 72 74 2 tt _ (search needs) (omega arith) (omega arith))
+    (λ c. span-between 75 75 4 tt _ (search needs) (omega arith) (omega arith))
+    (λ c. span-between 76 255 0 tt _ (search needs) (omega arith) (omega arith))
     (λ c. span-between 69 71 3 tt _ (search needs) (omega arith) (omega arith))
     (λ c. span-between 67 68 4 tt _ (search needs) (omega arith) (omega arith))
     (λ c. span-between 65 66 3 tt _ (search needs) (omega arith) (omega arith)))

@@ -3,6 +3,7 @@
 use super::*;
 use crate::cases::generate::dice::Dice;
 use crate::cases::runs::chance::{any_book, events};
+use crate::cases::runs::choose::needed;
 use crate::cases::runs::lively::Most;
 
 /// "Where a cell's trust is above C, its label and its value's source are at least that trust.
@@ -49,14 +50,27 @@ fn the_claim_fails_in_some_runs_of_other_books() {
     assert!(others.filter(|run| !holds_in(run)).count() >= 100);
 }
 
+/// A choose between blocks of which one has a lesser bound than P is refused, and lets the claim fail
+/// if that block is chosen.
+#[test]
+fn the_claim_needs_both_bounds_of_a_choose() {
+    // Behind C, two plain shapes, two cell shapes, two cells, a block and a put.
+    let (number, place) = (8, 2 + 2 + 6 + 16 + 2 + 6);
+    for run in needed::breaking() {
+        assert_eq!(check(&run.book), Verdict::Refused { number, place });
+        assert!(!holds_in(&run), "{run:?}");
+    }
+    let runs = needed::holding();
+    assert!(runs.iter().all(holds_in));
+    // Both bounds are enough in 2 of 8.
+    let sound = runs.iter().filter(|run| accepted(&run.book)).count();
+    assert_eq!((sound, runs.len()), (4, 16));
+}
+
 #[test]
 fn the_claim_holds_in_runs_by_chance() {
     let mut dice = Dice::new(0x5EED_0050);
-    let most = Most {
-        cells: 6,
-        blocks: 5,
-        steps: 16,
-    };
+    let most = Most::new(6, 5, 16).with_choose();
     for _ in 0..5_000 {
         // Of these numbers, 0 asks for an accepted book.
         let book = any_book(&mut dice, 0, most);

@@ -18,7 +18,7 @@ struct Taken<'m> {
 }
 
 impl Taken<'_> {
-    /// The value that the step moves, if it moves one.
+    /// The values that the step moves or looks at.
     fn moved(&self) -> Vec<(&str, Value)> {
         let register = |number| self.job.register(number);
         let content = |w| match register(w).datum {
@@ -31,6 +31,7 @@ impl Taken<'_> {
             Step::Read { w, .. } => vec![("content", content(w)), ("name", register(w))],
             Step::Relabel { w, .. } => vec![("name", register(w))],
             Step::Exec { w } => vec![("code", content(w)), ("name", register(w))],
+            Step::Choose { r, .. } => vec![("number", register(r))],
             _ => vec![],
         }
     }
@@ -119,7 +120,7 @@ fn reached(run: &Run) -> Reached {
     reached
 }
 
-const EXPECTED: [&str; 40] = [
+const EXPECTED: [&str; 43] = [
     "both tables full",
     "64 by a job touched below its label",
     "65 by a job touched below its label",
@@ -132,6 +133,7 @@ const EXPECTED: [&str; 40] = [
     "72 by a job touched below its label",
     "73 by a job touched below its label",
     "74 by a job touched below its label",
+    "75 by a job touched below its label",
     "67 of a touched first",
     "67 of a touched second",
     "67 of a clean first by a lower job",
@@ -160,6 +162,8 @@ const EXPECTED: [&str; 40] = [
     "74 of a clean name by a lower job",
     "74 of a made cell as name",
     "74 done after it was blocked",
+    "75 of a touched number",
+    "75 of a clean number by a lower job",
 ];
 
 #[test]

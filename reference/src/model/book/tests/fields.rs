@@ -22,6 +22,8 @@ fn refusal_5_limits() {
         ("47 07 0F", "47 07 10"),
         ("48 0F", "48 10"),
         ("4A 07", "4A 08"),
+        ("4B 07 00 00", "4B 08 00 00"),
+        ("4B 00 00 00", "4B FF 00 00"),
         ("30 0F", "30 10"),
     ];
     for (largest, above) in pairs {
@@ -91,4 +93,13 @@ fn refusal_6_steps_that_name() {
     for step in ["41 00 01", "42 00 02", "49 02", "41 00 FF", "49 FF"] {
         assert_refused(&[head, step].concat(), 6, 18);
     }
+    // Of the two blocks of a choose the first, the second, or both.
+    for step in ["4B 00 00 01", "4B 00 01 00", "4B 07 01 01"] {
+        assert_readable(&[head, step].concat());
+    }
+    for step in ["4B 00 02 01", "4B 00 01 02", "4B 00 02 02", "4B 00 00 FF"] {
+        assert_refused(&[head, step].concat(), 6, 18);
+    }
+    // A register that is too high comes first.
+    assert_refused(&[head, "4B 08 02 02"].concat(), 5, 18);
 }

@@ -63,6 +63,17 @@ impl Fast<'_> {
             Step::Add { r, a, b } => job.add(r, a, b),
             Step::Lower { label } => job.lower(label),
             Step::Start { block } => self.begin(Job::new(block, label, source)),
+            Step::Choose { r, first, second } => match job.word(r) {
+                Word {
+                    kind: PLAIN,
+                    number,
+                    ..
+                } => {
+                    let block = if number == 0 { second } else { first };
+                    self.begin(Job::new(block, label, source))
+                }
+                _ => BLOCKED,
+            },
             Step::New { r, shape, a } => self.new_step(number, r, shape, a),
             Step::Read { w, .. }
             | Step::Write { w, .. }

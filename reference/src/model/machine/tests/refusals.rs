@@ -26,11 +26,14 @@ fn assert_runs(events: &[u8], lengths: [usize; 3]) {
 fn refusals_1_to_6_are_those_of_reading() {
     let books = [
         (vec![0; 32_769], 1, 0),
-        (hex("01 03 30 00 4B"), 2, 4),
+        (hex("01 03 30 00 4C"), 2, 4),
+        (hex("01 03 30 00 4B 00 00"), 2, 4),
         (hex("01 03"), 3, 2),
         (hex(&["01 03 30 00", &" 48 00".repeat(65)].concat()), 4, 132),
         (hex("01 03 30 10"), 5, 2),
         (hex("01 03 30 00 49 01"), 6, 4),
+        (hex("01 03 30 00 4B 08 00 00"), 5, 4),
+        (hex("01 03 30 00 4B 00 00 01"), 6, 4),
     ];
     for (book, number, place) in books {
         assert_refused(&book, &[], RIGHT, number, place);

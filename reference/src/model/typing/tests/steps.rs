@@ -17,17 +17,17 @@ fn world(bound: u8, steps: &str) -> String {
     format!("{WORLD} 30 {bound:02X} {steps} 30 0F 30 0B 30 0C")
 }
 
-fn passes(bound: u8, steps: &str) {
+pub fn passes(bound: u8, steps: &str) {
     assert_accepted(&world(bound, steps));
 }
 
 /// The step at this offset in the steps breaks its rule.
-fn breaks(bound: u8, steps: &str, at: usize) {
+pub fn breaks(bound: u8, steps: &str, at: usize) {
     assert_refused(&world(bound, steps), 8, STEPS + at);
 }
 
 /// The steps pass and are not stuck: a read through a plain register behind them breaks.
-fn goes_on(bound: u8, steps: &str) {
+pub fn goes_on(bound: u8, steps: &str) {
     passes(bound, steps);
     let behind = hex(steps).len();
     breaks(bound, &[steps, "45 06 07"].join(" "), behind);
@@ -43,7 +43,7 @@ fn sticks(bound: u8, steps: &str) {
 }
 
 /// As `goes_on` for P at or below C, where only new of high trust breaks.
-fn goes_on_low(bound: u8, steps: &str) {
+pub fn goes_on_low(bound: u8, steps: &str) {
     passes(bound, steps);
     let behind = hex(steps).len();
     breaks(bound, &[steps, "44 06 01 07"].join(" "), behind);
@@ -155,7 +155,7 @@ fn new_at_low_p() {
 #[test]
 fn every_other_step_passes_at_low_p() {
     let steps = "40 00 01 00 00 00  41 01 00  42 02 01  43 03 01 02  45 04 01  45 04 07  46 01 02
-        46 07 07  47 01 0F  47 01 00  47 07 0F  49 02  4A 01  4A 07";
+        46 07 07  47 01 0F  47 01 00  47 07 0F  49 02  4A 01  4A 07  4B 01 02 02";
     for bound in [0, 2, 3] {
         goes_on_low(bound, steps);
     }

@@ -58,13 +58,13 @@ fn refusal_2_is_at_the_first_row_of_an_unknown_kind() {
     for kind in (0..=255).filter(|kind| !(16..=18).contains(kind)) {
         assert_refused(&a_with(|tables| tables.shapes[3] = kind), 2, 3);
     }
-    for kind in (0..=255).filter(|kind| !(64..=74).contains(kind)) {
+    for kind in (0..=255).filter(|kind| !(64..=75).contains(kind)) {
         assert_refused(&a_with(|tables| tables.steps[8] = kind), 2, 19);
     }
     // A cell shape is two bytes longer than a plain one.
-    let two = a_with(|tables| (tables.shapes[0], tables.steps[0]) = (18, 75));
+    let two = a_with(|tables| (tables.shapes[0], tables.steps[0]) = (18, 76));
     assert_refused(&two, 2, 18);
-    let counts_too = a_with(|tables| (tables.shapes[0], tables.blocks[1]) = (75, 4));
+    let counts_too = a_with(|tables| (tables.shapes[0], tables.blocks[1]) = (76, 4));
     assert_refused(&counts_too, 2, 0);
 }
 
@@ -116,6 +116,7 @@ fn refusal_5_is_a_field_above_its_limit_or_one_that_is_not_used() {
         step(68, [7, 1, 7], 0),
         step(71, [7, 15, 0], 0),
         step(73, [0, 0, 0], 0),
+        step(75, [7, 0, 0], 0),
     ];
     for row in sound {
         assert!(written(&with_step(row.clone()), 40_000).is_ok(), "{row:?}");
@@ -132,6 +133,10 @@ fn refusal_5_is_a_field_above_its_limit_or_one_that_is_not_used() {
         step(72, [0, 1, 0], 0),
         step(73, [0, 0, 0], 256),
         step(74, [0, 0, 255], 0),
+        step(75, [8, 0, 0], 0),
+        step(75, [255, 1, 1], 0),
+        step(75, [0, 0, 0], 1),
+        step(75, [0, 0, 0], 1 << 24),
     ];
     for row in faulty {
         assert_refused(&with_step(row), 5, 19);
@@ -172,4 +177,8 @@ fn refusal_6_is_what_does_not_exist() {
     assert_refused(&with_last(step(66, [0, 1, 0], 0)), 6, 25);
     assert_refused(&with_last(step(68, [0, 0, 0], 0)), 6, 25);
     assert_refused(&with_last(step(73, [1, 0, 0], 0)), 6, 25);
+    for blocks in [[0, 1], [1, 0], [1, 1], [0, 255], [255, 0]] {
+        let [first, second] = blocks;
+        assert_refused(&with_last(step(75, [0, first, second], 0)), 6, 25);
+    }
 }
