@@ -1,4 +1,6 @@
 // One act of a run on what it reaches: what it looks at of the job that acts, and one cell, both by value.
+#![tactic(auto)]
+
 mod acts;
 mod registers;
 
@@ -11,7 +13,7 @@ pub use registers::{
 };
 
 // A stored value: kind 0 plain, 1 a cell, any other a block, as the book reads kinds. Its source is the lowest label of its history.
-#[derive(Drop)]
+#[derive(Clone, Copy)]
 pub struct Stored {
     pub number: u32,
     pub kind: u8,
@@ -19,7 +21,7 @@ pub struct Stored {
 }
 
 // A cell: the number, kind and source of its content, its shape and its label. No byte is unused, so that a table of cells is cleared at once.
-#[derive(Drop)]
+#[derive(Clone, Copy)]
 pub struct StoredCell {
     pub number: u32,
     pub kind: u8,
@@ -29,7 +31,7 @@ pub struct StoredCell {
 }
 
 // A job; its source is the lowest label of its history. Where its next step stands in the book is the run's to know.
-#[derive(Drop)]
+#[derive(Clone, Copy)]
 pub struct StoredJob {
     pub registers: [Stored; 8],
     pub at: usize,
@@ -57,7 +59,7 @@ impl StoredJob {
 }
 
 // What an act looks at: the cell that it reaches, and how many cells and jobs are in use.
-#[derive(Drop)]
+#[derive(Clone, Copy)]
 pub struct Near {
     pub cell: StoredCell,
     pub cells: usize,
@@ -66,7 +68,7 @@ pub struct Near {
 
 // What an act does: it is blocked; a register of the job that acts has this value; its label and its source are these; the cell that is reached
 // now stands so; a cell is new, and a register of the job that acts names it; a job of this block, label and source is new.
-#[derive(Drop)]
+#[derive(Clone, Copy)]
 pub enum Act {
     Blocked,
     Give(u8, Stored),

@@ -1,4 +1,6 @@
 // The words for what a job book says, and for what reading one gives.
+#![tactic(auto)]
+
 pub mod group;
 pub mod kind;
 pub mod limit;
@@ -11,7 +13,7 @@ ghost use Rattle.book.specs.Stretch.{lost};
 use labels::{Label, Trust};
 
 // A step of a block, its fields in the record's order.
-#[derive(Drop)]
+#[derive(Clone, Copy)]
 pub enum Step {
     Put(u8, u32),
     Name(u8, u8),
@@ -28,7 +30,7 @@ pub enum Step {
 }
 
 // A shape: 16 plain, 17 code of a bound, 18 cell of a content shape and a trust. What its kind does not have is 0.
-#[derive(Drop)]
+#[derive(Clone, Copy)]
 pub struct Shape {
     pub kind: u8,
     pub bound: Label,
@@ -37,7 +39,7 @@ pub struct Shape {
 }
 
 // A declared value: a plain number, a cell's number, a block's number.
-#[derive(Drop)]
+#[derive(Clone, Copy)]
 pub enum Value {
     Plain(u32),
     CellName(u32),
@@ -45,7 +47,7 @@ pub enum Value {
 }
 
 // A declared cell.
-#[derive(Drop)]
+#[derive(Clone, Copy)]
 pub struct Declared {
     pub shape: u8,
     pub label: Label,
@@ -53,21 +55,21 @@ pub struct Declared {
 }
 
 // Where the first record at fault stands, if one does.
-#[derive(Drop)]
+#[derive(Clone, Copy)]
 pub enum Fault {
     Nowhere,
     At(usize),
 }
 
 // A refusal by its number and place, or none.
-#[derive(Drop)]
+#[derive(Clone, Copy)]
 pub enum Refusal {
     Passed,
     Refused { number: u8, place: usize },
 }
 
 // How many shapes, cells and blocks stand so far, and how many steps in the block.
-#[derive(Drop)]
+#[derive(Clone, Copy)]
 pub struct Tally {
     pub shapes: usize,
     pub cells: usize,
@@ -76,7 +78,7 @@ pub struct Tally {
 }
 
 // How many shapes, cells, blocks and steps a book has.
-#[derive(Drop)]
+#[derive(Clone, Copy)]
 pub struct Counts {
     pub shapes: usize,
     pub cells: usize,
@@ -85,14 +87,14 @@ pub struct Counts {
 }
 
 // Where a run of steps ends, and how many they are.
-#[derive(Drop)]
+#[derive(Clone, Copy)]
 pub struct Skipped {
     pub at: usize,
     pub count: usize,
 }
 
 // What a book says apart from its steps and its cells' values, in tables of numbers that can be lent. Unused entries are 0.
-#[derive(Drop)]
+#[derive(Clone, Copy)]
 pub struct Outline {
     pub c: Label,
     pub counts: Counts,
@@ -108,14 +110,14 @@ pub struct Outline {
 }
 
 // What reading a book gives. After a refusal the outline is 0.
-#[derive(Drop)]
+#[derive(Clone, Copy)]
 pub struct Reading {
     pub refusal: Refusal,
     pub outline: Outline,
 }
 
 // A block's stretch: where it starts in the book, and its length. After a refusal both are 0.
-#[derive(Drop)]
+#[derive(Clone, Copy)]
 pub struct Found {
     pub refusal: Refusal,
     pub start: usize,
@@ -123,14 +125,14 @@ pub struct Found {
 }
 
 // The step at an offset, and the offset past it.
-#[derive(Drop)]
+#[derive(Clone, Copy)]
 pub enum StepAt {
     NoStep,
     StepThere(Step, usize),
 }
 
 // The declared cell at an offset.
-#[derive(Drop)]
+#[derive(Clone, Copy)]
 pub enum CellAt {
     NoCell,
     CellThere(Declared),

@@ -1,4 +1,6 @@
 // The checker: the verdict on a book.
+#![tactic(auto)]
+
 mod blocks;
 mod declared;
 

@@ -1,4 +1,6 @@
 // What a record says.
+#![tactic(auto)]
+
 ghost use Rattle.std.specs.Prelude.{◌≡◌, ◌<◌, length};
 ghost use Rattle.book.specs.Book.{shape_at, value_of, declared_at, step_at};
 ghost use Rattle.book.specs.Outline.{shape_in};

@@ -1,4 +1,6 @@
 // The event list: its scan, by refusal 9, and the event at an offset.
+#![tactic(auto)]
+
 ghost use Rattle.std.specs.Prelude.{◌≡◌, ◌<◌, ◌≤◌, length};
 ghost use Rattle.events.specs.Asked.{Steps};
 ghost use Rattle.events.specs.Bytes.{event_span, next_event, event_cut, event_at, refused_scan, scanned};
@@ -8,7 +10,7 @@ use labels::Label;
 use machine::{Event, kind};
 
 // What the scan of an event list gives: its refusal by 9, or how many events it has. After a refusal the count is 0.
-#[derive(Drop)]
+#[derive(Clone, Copy)]
 pub struct Scanned {
     pub refusal: Refusal,
     pub count: usize,
@@ -108,7 +110,7 @@ impl Scanned {
 }
 
 // Steps that were passed over: the offset behind them, and how many they are.
-#[derive(Drop)]
+#[derive(Clone, Copy)]
 struct StepsPassed {
     at: usize,
     count: usize,

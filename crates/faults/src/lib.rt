@@ -1,4 +1,6 @@
 // The first record at fault, for each of refusals 2 to 6: a stage covers the whole book.
+#![tactic(auto)]
+
 mod naming;
 mod stages;
 

@@ -1,4 +1,6 @@
 // The events of a run, one after the other, from the fresh state to the saved tables.
+#![tactic(auto)]
+
 ghost use Rattle.std.specs.Prelude.{◌≡◌, ◌≤◌};
 ghost use Rattle.book.specs.declared.Refusal.TheVariants.{Passed};
 ghost use Rattle.interpreter.specs.Loop.{Ready};
@@ -10,7 +12,7 @@ use labels::Label;
 use machine::answer;
 
 // What a run gives: its refusal, or the cells and jobs in use. After a refusal both are 0.
-#[derive(Drop)]
+#[derive(Clone, Copy)]
 pub struct RunResult {
     pub refusal: Refusal,
     pub cells: usize,

@@ -1,14 +1,16 @@
 // Labels and trust. Document 001 has two kinds of label: the dynamic label of a cell or a job, and the static label of a cell's
 // content, which the request calls its trust. They are types of their own, and only the functions here compare one with the other.
+#![tactic(auto)]
+
 ghost use Rattle.std.specs.Prelude.{◌≡◌};
 ghost use Rattle.labels.specs.Labels.{lower, reaches, is_above, is_met, is_high, covers, normal, capped};
 
 // A label: 0 to 15, higher is more trusted. Labels of cells and jobs, bounds, C and the members of histories.
-#[derive(Drop)]
+#[derive(Clone, Copy)]
 pub struct Label(pub u8);
 
 // The trust of a cell: fixed by its shape.
-#[derive(Drop)]
+#[derive(Clone, Copy)]
 pub struct Trust(pub u8);
 
 impl Label {

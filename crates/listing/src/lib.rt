@@ -1,4 +1,6 @@
 // The fields of the record or the event at an offset, for a reader that goes through bytes one by one.
+#![tactic(auto)]
+
 ghost use Rattle.std.specs.Prelude.{◌≡◌, ◌≤◌, ◌<◌, length};
 ghost use Rattle.listing.specs.Fields.{field_at, fields_end, number_if, no_fields, fields_to};
 ghost use Rattle.listing.specs.Fields.{has_number, record_fields, event_has_number, event_fields};
@@ -8,7 +10,7 @@ use machine::kind as event;
 
 // What stands at an offset: the kind, the fields of one byte in their order, the number, and the offset of what follows. What the kind
 // does not have is 0; the kind is 0, and all else, where nothing whole stands.
-#[derive(Drop)]
+#[derive(Clone, Copy)]
 pub struct Fields {
     pub kind: u8,
     pub first: u8,

@@ -1,11 +1,13 @@
 // The machine of a job book: what is done to it. What it then does is in specs/.
+#![tactic(auto)]
+
 pub mod answer;
 pub mod kind;
 
 use labels::Label;
 
 // The label that a run is given for job 0: none, or one.
-#[derive(Drop)]
+#[derive(Clone, Copy)]
 pub enum Launch {
     Default,
     Given(Label),
@@ -13,7 +15,7 @@ pub enum Launch {
 
 // An event, its fields in the record's order: 80 step job; by an outsider at a label, 81 write cell, value kind, number; 82 relabel
 // cell, label; 83 new shape, value kind, number; 84 exec cell; 85 start block.
-#[derive(Drop)]
+#[derive(Clone, Copy)]
 pub enum Event {
     StepOf(u8),
     WriteBy(Label, u8, u8, u32),

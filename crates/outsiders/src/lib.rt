@@ -1,4 +1,6 @@
 // An outsider's event.
+#![tactic(auto)]
+
 ghost use Rattle.std.specs.Prelude.{◌≡◌};
 ghost use Rattle.book.specs.Outline.{shape_in};
 ghost use Rattle.machine.specs.Histories.{sources};

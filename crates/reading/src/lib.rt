@@ -1,4 +1,6 @@
 // Reading a job book: refusals 1 to 6, the outline, a block's stretch.
+#![tactic(auto)]
+
 mod gather;
 
 ghost use Rattle.std.specs.Prelude.{◌≡◌, ◌+◌, ◌≤◌, length};

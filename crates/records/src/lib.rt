@@ -1,4 +1,6 @@
 // The records of a job book: their bytes and numbers, what a kind fixes, and from one record to the next; bytes copied into lent memory.
+#![tactic(auto)]
+
 mod copy;
 mod fields;
 mod reader;

@@ -8,7 +8,7 @@ ghost use Rattle.records.specs.Readers.{reader_at};
 use crate::fields;
 
 // The book, and the offset of the record at hand.
-#[derive(Drop)]
+#[derive(Clone, Copy)]
 pub struct Reader<'a> {
     pub book: &'a [u8],
     pub at: usize,

@@ -1,16 +1,18 @@
 // The next job of a round: the jobs are scanned in a ring.
+#![tactic(auto)]
+
 ghost use Rattle.std.specs.Prelude.{◌≡◌, ◌<◌, ◌≤◌, length};
 ghost use Rattle.rotation.specs.Round.{first_place, scan};
 ghost use Rattle.rotation.specs.Scans.{is_pending};
 
 // A job as the scan looks at it: the offset past its next step in the book, 0 where no step is left.
-#[derive(Drop)]
+#[derive(Clone, Copy)]
 pub struct Pending {
     pub past: u16,
 }
 
 // What a scan finds: the number of a job, or none.
-#[derive(Drop)]
+#[derive(Clone, Copy)]
 pub enum JobFound {
     At(usize),
     Nothing,

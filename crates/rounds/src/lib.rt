@@ -1,4 +1,6 @@
 // The round of a book: refusals, then the turns, then the lent tables.
+#![tactic(auto)]
+
 ghost use Rattle.std.specs.Prelude.{◌≡◌, ◌≤◌};
 ghost use Rattle.book.specs.declared.Refusal.TheVariants.{Passed};
 ghost use Rattle.interpreter.specs.Run.{or_next};

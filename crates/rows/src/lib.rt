@@ -1,4 +1,6 @@
 // The rows of what a record says, so that a book can be taken apart.
+#![tactic(auto)]
+
 ghost use Rattle.std.specs.Prelude.{◌≡◌, ◌∷◌};
 ghost use Rattle.book.specs.Records.{number_bytes};
 ghost use Rattle.rows.specs.Parsed.{shape_row_of, cell_row_of, step_row_of, shape_row_bytes, cell_row_bytes, step_row_bytes};

@@ -1,4 +1,6 @@
 // The run of a book: refusals, then the events, then the lent tables.
+#![tactic(auto)]
+
 ghost use Rattle.std.specs.Prelude.{◌≡◌, ◌≤◌};
 ghost use Rattle.book.specs.declared.Refusal.TheVariants.{Passed};
 ghost use Rattle.machine.specs.Events.{launched_at};

@@ -1,4 +1,6 @@
 // The turns of a round, one after the other, from the fresh state to the saved tables.
+#![tactic(auto)]
+
 ghost use Rattle.std.specs.Prelude.{◌≡◌, ◌≤◌, length};
 ghost use Rattle.book.specs.Spans.{byte_at};
 ghost use Rattle.book.specs.Book.{step_at};
@@ -16,7 +18,7 @@ use machine::answer;
 use rotation::{JobFound, Pending};
 
 // What a round gives: its refusal, or the cells and jobs in use and the turns used. After a refusal these are 0.
-#[derive(Drop)]
+#[derive(Clone, Copy)]
 pub struct RoundResult {
     pub refusal: Refusal,
     pub cells: usize,

@@ -1,4 +1,6 @@
 // Refusals 2 to 5 in one pass: it tells a book that none of them holds of. Which holds first, and where, the stages say.
+#![tactic(auto)]
+
 ghost use Rattle.std.specs.Prelude.{◌≡◌, true, ◌<◌, length};
 ghost use Rattle.book.specs.Records.{byte_at};
 ghost use Rattle.book.specs.Asked.{Fixed, Fit, Clear};

@@ -1,4 +1,6 @@
 // The records of a run: what it starts from, and saved as bytes into the lent tables.
+#![tactic(auto)]
+
 mod opening;
 
 ghost use Rattle.std.specs.Prelude.{◌≡◌, ◌≤◌, ◌<◌, length, take};

@@ -1,4 +1,6 @@
 // A step of a job at label l, with source h and these registers. Where a step reaches a cell, u is the register that names it.
+#![tactic(auto)]
+
 ghost use Rattle.std.specs.Prelude.{◌≡◌, ◌+◌, ◌≤◌, length};
 ghost use Rattle.book.specs.declared.Step.TheVariants.{Add, New, Read, Write, Relabel, Exec, Choose};
 ghost use Rattle.book.specs.Records.{byte_at};

@@ -1,4 +1,6 @@
 // The typing rules: of a declared cell, and of a step.
+#![tactic(auto)]
+
 mod declared;
 mod registers;
 mod rules;
@@ -10,7 +12,7 @@ use labels::Label;
 pub use steps::type_step;
 
 // What is known of the value in a register.
-#[derive(Drop)]
+#[derive(Clone, Copy)]
 pub enum Known {
     Unknown,
     Plain,
@@ -19,21 +21,21 @@ pub enum Known {
 }
 
 // The shape of a register that is a cell.
-#[derive(Drop)]
+#[derive(Clone, Copy)]
 pub enum KnownCell {
     Of(u8),
     No,
 }
 
 // A register as typing sees it: a known shape and an effect.
-#[derive(Drop)]
+#[derive(Clone, Copy)]
 pub struct Register {
     pub known: Known,
     pub effect: Label,
 }
 
 // What is known before a step: P, whether a lower stands earlier in the block, the registers.
-#[derive(Drop)]
+#[derive(Clone, Copy)]
 pub struct State {
     pub p: Label,
     pub lowered: bool,
@@ -42,7 +44,7 @@ pub struct State {
 
 // What a step's rule says: the step passes, and nothing changes that typing sees, or a register or P does; it is stuck; or it breaks the
 // rule.
-#[derive(Drop)]
+#[derive(Clone, Copy)]
 pub enum Stepped {
     Passes,
     Gives(u8, Register),
@@ -52,7 +54,7 @@ pub enum Stepped {
 }
 
 // The answer of the check.
-#[derive(Drop)]
+#[derive(Clone, Copy)]
 pub enum Verdict {
     Accepted {
         shapes: usize,

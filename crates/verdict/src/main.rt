@@ -1,5 +1,7 @@
 // Reads a book on standard input and prints its verdict. Where the input cannot be read it says so on standard error and prints nothing. One
 // byte more than the limit is enough to refuse a longer book.
+#![tactic(auto)]
+
 mod words;
 
 use libc::STDIN_FILENO;

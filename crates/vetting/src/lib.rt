@@ -1,4 +1,6 @@
 // Tables of which refusals 2 to 6 do not hold: a quick test, on the rows. Which holds first, and where, the writer's stages say.
+#![tactic(auto)]
+
 ghost use Rattle.std.specs.Prelude.{◌≡◌, true};
 ghost use Rattle.rows.specs.Rows.{shape_rows_in, cell_rows_in, block_rows_in, step_rows_in, tables_in};
 ghost use Rattle.vetting.specs.Asked.{SoundTables, CellShape, ShapeSound, ValueSound, StepSound, ShapesSound, CellsSound, BlocksSound, StepsSound};

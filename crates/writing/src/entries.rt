@@ -9,7 +9,7 @@ use labels::Label;
 
 // The bytes of a record, of which length count, and what is wrong with its row: its kind is none of its table's; a field that its kind does
 // not use is not 0.
-#[derive(Drop)]
+#[derive(Clone, Copy)]
 pub struct Entry {
     pub bytes: [u8; 8],
     pub length: usize,

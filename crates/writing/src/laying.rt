@@ -11,7 +11,7 @@ use book::{Fault, kind};
 use labels::Label;
 
 // How many bytes stand so far, the first row whose kind is none of its table's, and the first with a spare field.
-#[derive(Drop)]
+#[derive(Clone, Copy)]
 pub struct Pen {
     pub at: usize,
     pub strange: Fault,

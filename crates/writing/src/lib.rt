@@ -1,4 +1,6 @@
 // Writing a job book from its tables: refusals 1 to 6 and 13, or the bytes.
+#![tactic(auto)]
+
 mod counts;
 mod entries;
 mod laying;
@@ -16,7 +18,7 @@ use labels::Label;
 use laying::Pen;
 
 // What writing gives: a refusal, or how many bytes were written. After a refusal the length is 0.
-#[derive(Drop)]
+#[derive(Clone, Copy)]
 pub struct Written {
     pub refusal: Refusal,
     pub length: usize,

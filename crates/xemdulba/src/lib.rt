@@ -1,4 +1,6 @@
 // The library for other languages: include/xemdulba.h declares it.
+#![tactic(auto)]
+
 ghost use Rattle.std.specs.Prelude.{◌≡◌};
 ghost use Rattle.book.specs.Stretch.{found_block};
 ghost use Rattle.typing.specs.Verdict.{verdict};
@@ -17,7 +19,7 @@ use typing::Verdict;
 
 // The verdict on a book: refusal 0 where it is accepted. On a refusal the counts are 0.
 #[repr(C)]
-#[derive(Drop)]
+#[derive(Clone, Copy)]
 pub struct Checked {
     pub refusal: u32,
     pub place: u32,
@@ -29,7 +31,7 @@ pub struct Checked {
 
 // A block's stretch, as an offset and a length of the lent book. On a refusal both are 0.
 #[repr(C)]
-#[derive(Drop)]
+#[derive(Clone, Copy)]
 pub struct Stretch {
     pub refusal: u32,
     pub place: u32,
@@ -39,7 +41,7 @@ pub struct Stretch {
 
 // What a run gives: refusal 0 where the events ran. On a refusal the cells and jobs in use are 0.
 #[repr(C)]
-#[derive(Drop)]
+#[derive(Clone, Copy)]
 pub struct Ran {
     pub refusal: u32,
     pub place: u32,
@@ -50,7 +52,7 @@ pub struct Ran {
 // What stands at an offset: its kind, its fields of one byte in their order, its number, and the offset of what follows. What the kind
 // does not have is 0, and all is 0 where nothing whole stands.
 #[repr(C)]
-#[derive(Drop)]
+#[derive(Clone, Copy)]
 pub struct Told {
     pub kind: u32,
     pub first: u32,
@@ -197,7 +199,7 @@ pub extern "C" fn xemdulba_run(
 
 // What a round gives: refusal 0 where the turns were taken. On a refusal the cells and jobs in use and the turns used are 0.
 #[repr(C)]
-#[derive(Drop)]
+#[derive(Clone, Copy)]
 pub struct Rounded {
     pub refusal: u32,
     pub place: u32,
@@ -251,7 +253,7 @@ pub extern "C" fn xemdulba_round(
 
 // What writing gives: refusal 0 where the book was written, and its length. On a refusal the length is 0.
 #[repr(C)]
-#[derive(Drop)]
+#[derive(Clone, Copy)]
 pub struct Written {
     pub refusal: u32,
     pub place: u32,
