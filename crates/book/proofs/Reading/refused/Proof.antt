@@ -5,4 +5,4 @@ use Rattle.book.proofs.Reading.refused.Statement.{statement}
 
 pub refused_spec : {M : Type 1} → statement M
 refused_spec = tie.close
-    (tie.spec (λ c κs. search rules) (λ c. simp c.empty.ensures))
+    (tie.spec (λ c κs. search rules) (λ c. simp c.empty-outline.ensures))

@@ -5,10 +5,10 @@ use Rattle.records.proofs.Copies.{Copying, copies}
 use Rattle.records.proofs.copy.copy_in.Tie as tie
 use Rattle.records.proofs.copy.copy_in.Statement.{statement}
 
-abbrev invariant-loop : tie.invariant-loop
+abbrev invariant-loop : tie.invariant-loop-j
 invariant-loop dst₀ at src j₀ j-end dst j = Copying dst₀ at src j-end dst j
 
-abbrev decreases-loop : tie.decreases-loop
+abbrev decreases-loop : tie.decreases-loop-j
 decreases-loop dst₀ at src j₀ j-end dst j = j-end - j
 
 pub copy_in_spec : {M : Type 1} → statement M

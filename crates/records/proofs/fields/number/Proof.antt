@@ -5,12 +5,12 @@ use Rattle.records.proofs.fields.number.Statement.{statement}
 use Rattle.records.proofs.fields.number.Tie as tie
 
 -- o + 4 <= s.len()
-returns : tie.Need-returns
+returns : tie.Need-returns-then-o-s
 unfolding number_at
 returns c = search rules
 
 -- not (o + 4 <= s.len())
-returns-2 : tie.Need-returns-2
+returns-2 : tie.Need-returns
 unfolding number_at
 returns-2 c = search rules
 

@@ -7,10 +7,10 @@ use Rattle.book.proofs.Steps.{Skipping, skips}
 use Rattle.records.proofs.walk.skip_steps.Tie as tie
 use Rattle.records.proofs.walk.skip_steps.Statement.{statement}
 
-abbrev invariant-loop : tie.invariant-loop
+abbrev invariant-loop : tie.invariant-loop-o
 invariant-loop s from o₀ n₀ o n = Skipping s from o n
 
-abbrev decreases-loop : tie.decreases-loop
+abbrev decreases-loop : tie.decreases-loop-o
 decreases-loop s from o₀ n₀ o n = length s - o
 
 pub skip_steps_spec : {M : Type 1} → statement M
