@@ -8,4 +8,4 @@ use Rattle.faults.proofs.naming.is_cell_shape.Statement.{statement}
 
 pub is_cell_shape_spec : {M : Type 1} → statement M
 is_cell_shape_spec = tie.close
-    (tie.spec (λ c κs. search rules) (λ c. ap (λ (x : Shape). eqb x.kind 18) c.before.shape_in.ensures))
+    (tie.spec (λ c κs. search rules) (λ c. ap (λ (x : Shape). eqb x.kind 18) c.before.shape_in-x.ensures))

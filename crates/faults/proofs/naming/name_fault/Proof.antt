@@ -13,10 +13,10 @@ use Rattle.book.proofs.Stages.{onward}
 use Rattle.faults.proofs.naming.name_fault.Tie as tie
 use Rattle.faults.proofs.naming.name_fault.Statement.{statement}
 
-abbrev invariant-loop : tie.invariant-loop
+abbrev invariant-loop : tie.invariant-loop-o
 invariant-loop s shapes cells blocks o₀ n₀ o n = (o ≤ length s) × Whole s o × (n ≤ o) × (dangles (is_cell_shape_in shapes) cells blocks s n (records_from s o) ≡ name_fault s)
 
-abbrev decreases-loop : tie.decreases-loop
+abbrev decreases-loop : tie.decreases-loop-o
 decreases-loop s shapes cells blocks o₀ n₀ o n = length s - o
 
 pub name_fault_spec : {M : Type 1} → statement M
@@ -37,8 +37,8 @@ name_fault_spec =
       search onward,
       search onward,
       search onward,
-      name_shape _ _ _ _ _ _ _ round.before.loop.invariant.3 _ round.before.loop.invariant.1 round.loop-test.true dangled.is_dangling.ensures _ _
-          c.before.before.before.before.if1.false c.before.next_record.ensures c.before.before.Group-of.ensures c.if2.true,
+      name_shape _ _ _ _ _ _ _ round.before.loop-o.invariant.3 _ round.before.loop-o.invariant.1 round.loop-o-test.true dangled.is_dangling.ensures _ _
+          c.before.before.before.before.if-is_dangling.false c.before.next_record-o.ensures c.before.before.group_of-g.ensures c.if-g-eq-SHAPES.true,
     ))
     (λ c. search falls)  -- the measure falls
     -- the invariant holds again
@@ -48,7 +48,7 @@ name_fault_spec =
       search onward,
       search onward,
       search onward,
-      name_other _ _ _ _ _ _ _ round.before.loop.invariant.3 _ round.before.loop.invariant.1 round.loop-test.true dangled.is_dangling.ensures _ _
-          c.before.before.before.before.if1.false c.before.next_record.ensures c.before.before.Group-of.ensures c.if2.false,
+      name_other _ _ _ _ _ _ _ round.before.loop-o.invariant.3 _ round.before.loop-o.invariant.1 round.loop-o-test.true dangled.is_dangling.ensures _ _
+          c.before.before.before.before.if-is_dangling.false c.before.next_record-o.ensures c.before.before.group_of-g.ensures c.if-g-eq-SHAPES.false,
     ))
     (λ c. search names))  -- at the end

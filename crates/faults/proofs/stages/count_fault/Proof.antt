@@ -13,10 +13,10 @@ use Rattle.book.proofs.Stages.{tallies, onward}
 use Rattle.faults.proofs.stages.count_fault.Tie as tie
 use Rattle.faults.proofs.stages.count_fault.Statement.{statement}
 
-abbrev invariant-loop : tie.invariant-loop
+abbrev invariant-loop : tie.invariant-loop-o
 invariant-loop s o₀ n₀ o n = (o ≤ length s) × Whole s o × (too_many n ≡ false) × (beyond s n (records_from s o) ≡ count_fault s)
 
-abbrev decreases-loop : tie.decreases-loop
+abbrev decreases-loop : tie.decreases-loop-o
 decreases-loop s o₀ n₀ o n = length s - o
 
 pub count_fault_spec : {M : Type 1} → statement M

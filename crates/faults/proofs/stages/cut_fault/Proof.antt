@@ -11,10 +11,10 @@ use Rattle.book.proofs.Stages.{cuts}
 use Rattle.faults.proofs.stages.cut_fault.Tie as tie
 use Rattle.faults.proofs.stages.cut_fault.Statement.{statement}
 
-abbrev invariant-loop : tie.invariant-loop
+abbrev invariant-loop : tie.invariant-loop-o
 invariant-loop s o₀ o = (o ≤ length s) × (first (cut s) (records_from s o) ≡ cut_fault s)
 
-abbrev decreases-loop : tie.decreases-loop
+abbrev decreases-loop : tie.decreases-loop-o
 decreases-loop s o₀ o = length s - o
 
 pub cut_fault_spec : {M : Type 1} → statement M

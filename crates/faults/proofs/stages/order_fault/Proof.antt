@@ -12,10 +12,10 @@ use Rattle.book.proofs.Stages.{orders, onward}
 use Rattle.faults.proofs.stages.order_fault.Tie as tie
 use Rattle.faults.proofs.stages.order_fault.Statement.{statement}
 
-abbrev invariant-loop : tie.invariant-loop
+abbrev invariant-loop : tie.invariant-loop-o
 invariant-loop s o₀ p₀ o p = (o ≤ length s) × Whole s o × (misplaced s p (records_from s o) ≡ order_fault s)
 
-abbrev decreases-loop : tie.decreases-loop
+abbrev decreases-loop : tie.decreases-loop-o
 decreases-loop s o₀ p₀ o p = length s - o
 
 pub order_fault_spec : {M : Type 1} → statement M

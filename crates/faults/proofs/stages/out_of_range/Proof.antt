@@ -13,19 +13,19 @@ out_of_range_spec =
     (λ c κs. search rules) (λ c. search rules) (λ c κs. search rules)
     (λ c.
     let k = c.before.before in
-    first_above _ (λ i. (k.before.before.shared-slice-known.given i).fits) _ _ _ k.first_limit.ensures c.before.byte.ensures c.if1.true)
+    first_above _ (λ i. (k.before.before.shared_slice_known-1.given i).fits) _ _ _ k.first_limit.ensures c.before.byte.ensures c.if-first_limit-byte.true)
     -- the second
     (λ c κs. search rules) (λ c. search rules) (λ c κs. search rules)
     (λ c.
     let n = c.before.before.before in
     let k = n.before.before in
-    second_above _ (λ i. (k.before.before.shared-slice-known.given i).fits) _ _ _ k.first_limit.ensures n.before.byte.ensures _ _
-    c.before.before.second_limit.ensures c.before.byte2.ensures n.if1.false c.if2.true)
+    second_above _ (λ i. (k.before.before.shared_slice_known-1.given i).fits) _ _ _ k.first_limit.ensures n.before.byte.ensures _ _
+    c.before.before.second_limit.ensures c.before.byte-2.ensures n.if-first_limit-byte.false c.if-second_limit-byte.true)
     -- the third
     (λ c κs. search rules) (λ c. search rules) (λ c κs. search rules)
     (λ c.
     let m = c.before.before in
     let n = m.before.before.before in
     let k = n.before.before in
-    third_above _ (λ i. (k.before.before.shared-slice-known.given i).fits) _ _ _ k.first_limit.ensures n.before.byte.ensures _ _
-    m.before.before.second_limit.ensures m.before.byte2.ensures n.if1.false _ _ c.before.third_limit.ensures c.byte3.ensures m.if2.false))
+    third_above _ (λ i. (k.before.before.shared_slice_known-1.given i).fits) _ _ _ k.first_limit.ensures n.before.byte.ensures _ _
+    m.before.before.second_limit.ensures m.before.byte-2.ensures n.if-first_limit-byte.false _ _ c.before.third_limit.ensures c.byte-3.ensures m.if-second_limit-byte.false))

@@ -13,10 +13,10 @@ use Rattle.book.proofs.Stages.{ranges, onward}
 use Rattle.faults.proofs.stages.range_fault.Tie as tie
 use Rattle.faults.proofs.stages.range_fault.Statement.{statement}
 
-abbrev invariant-loop : tie.invariant-loop
+abbrev invariant-loop : tie.invariant-loop-o
 invariant-loop s o₀ o = (o ≤ length s) × Whole s o × (first (out_of_range s) (records_from s o) ≡ range_fault s)
 
-abbrev decreases-loop : tie.decreases-loop
+abbrev decreases-loop : tie.decreases-loop-o
 decreases-loop s o₀ o = length s - o
 
 pub range_fault_spec : {M : Type 1} → statement M
