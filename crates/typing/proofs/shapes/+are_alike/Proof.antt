@@ -23,8 +23,8 @@ abbrev are_alike_below : ℕ → In 1 are_alike_kinds.ps
 are_alike_below t =
     and 1 are_alike_kinds.ps (falls 1 are_alike_kinds.ps ◌<◌ μ_are_alike t) are_alike.Pre
 
-pub +are-alike-spec : {M : Type 1} → statement M
-+are-alike-spec =
+pub +are_alike_spec : {M : Type 1} → statement M
++are_alike_spec =
     close μ_are_alike
     (λ t. are_alike_lts.spec
     (shape_in_reads.Asked, shape_in_reads.Learnt, trust_of_reads.Asked, trust_of_reads.Learnt, are_alike_below t, are_alike.Post, is_plain_reads.Asked, is_plain_reads.Learnt)
