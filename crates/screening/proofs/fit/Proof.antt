@@ -22,5 +22,5 @@ fit_spec =
     let p2 = p3.before.before in
     let p1 = p2.before.before in
     let begun = p1.before in
-    fits_whole _ (λ i. (begun.shared-slice-known.given i).fits) _ _ _ _ _ _ _ _ begun.before.requires.1 begun.before.requires.0 p1.if1.false
-    p2.before.byte.ensures p3.before.byte2.ensures c.before.byte3.ensures p2.if2.false p3.if3.false c.if4.false))
+    fits_whole _ (λ i. (begun.shared_slice_known-1.given i).fits) _ _ _ _ _ _ _ _ begun.before.requires.1 begun.before.requires.0 p1.if-s-o.false
+    p2.before.byte.ensures p3.before.byte-2.ensures c.before.byte-3.ensures p2.if-a-byte.false p3.if-b-byte.false c.if-c-byte.false))

@@ -7,10 +7,10 @@ use Rattle.book.proofs.Screens.{Screened, screens, screen_none}
 use Rattle.screening.proofs.is_clear.Tie as tie
 use Rattle.screening.proofs.is_clear.Statement.{statement}
 
-abbrev invariant-loop : tie.invariant-loop
+abbrev invariant-loop : tie.invariant-loop-o
 invariant-loop s o₀ p₀ n₀ o p n = Screened s o p n
 
-abbrev decreases-loop : tie.decreases-loop
+abbrev decreases-loop : tie.decreases-loop-o
 decreases-loop s o₀ p₀ n₀ o p n = length s - o
 
 pub is_clear_spec : {M : Type 1} → statement M

@@ -6,10 +6,10 @@ use Rattle.vetting.proofs.Vetted.{BlocksUpto, block_loops}
 use Rattle.vetting.proofs.are_blocks_sound.Tie as tie
 use Rattle.vetting.proofs.are_blocks_sound.Statement.{statement}
 
-abbrev invariant-loop : tie.invariant-loop
+abbrev invariant-loop : tie.invariant-loop-i
 invariant-loop blocks steps n left₀ i₀ left i = BlocksUpto blocks steps n left i
 
-abbrev decreases-loop : tie.decreases-loop
+abbrev decreases-loop : tie.decreases-loop-i
 decreases-loop blocks steps n left₀ i₀ left i = n - i
 
 pub are_blocks_sound_spec : {M : Type 1} → statement M

@@ -7,10 +7,10 @@ use Rattle.vetting.proofs.Vetted.{CellsUpto, cell_loops}
 use Rattle.vetting.proofs.are_cells_sound.Tie as tie
 use Rattle.vetting.proofs.are_cells_sound.Statement.{statement}
 
-abbrev invariant-loop : tie.invariant-loop
+abbrev invariant-loop : tie.invariant-loop-i
 invariant-loop cells shapes blocks n i₀ i = CellsUpto cells (shape_rows_in shapes) blocks n i
 
-abbrev decreases-loop : tie.decreases-loop
+abbrev decreases-loop : tie.decreases-loop-i
 decreases-loop cells shapes blocks n i₀ i = n - i
 
 pub are_cells_sound_spec : {M : Type 1} → statement M

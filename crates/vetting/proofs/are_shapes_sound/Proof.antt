@@ -6,10 +6,10 @@ use Rattle.vetting.proofs.Vetted.{ShapesUpto, shape_loops}
 use Rattle.vetting.proofs.are_shapes_sound.Tie as tie
 use Rattle.vetting.proofs.are_shapes_sound.Statement.{statement}
 
-abbrev invariant-loop : tie.invariant-loop
+abbrev invariant-loop : tie.invariant-loop-i
 invariant-loop shapes n i₀ i = ShapesUpto shapes n i
 
-abbrev decreases-loop : tie.decreases-loop
+abbrev decreases-loop : tie.decreases-loop-i
 decreases-loop shapes n i₀ i = n - i
 
 pub are_shapes_sound_spec : {M : Type 1} → statement M

@@ -15,8 +15,8 @@ are_sound_spec =
     let b = c.before.before in
     let d = b.before.before in
     let s = d.before.before in
-    vetted _ _ _ _ _ _ _ _ _ s.before.if1.false s.are_shapes_sound.ensures d.before.if2.true d.are_cells_sound.ensures b.before.if3.true
-    b.are_blocks_sound.ensures c.before.if4.true c.are_steps_sound.ensures e)  -- each table is sound, if the steps are
+    vetted _ _ _ _ _ _ _ _ _ s.before.if-c-gt-C.false s.are_shapes_sound-shaped.ensures d.before.if-shaped.true d.are_cells_sound-declared.ensures b.before.if-declared.true
+    b.are_blocks_sound-counted.ensures c.before.if-counted.true c.are_steps_sound.ensures e)  -- each table is sound, if the steps are
     (λ c. wrong)  -- the blocks
     (λ c. wrong)  -- the cells
     (λ c. wrong))  -- the shapes

@@ -7,10 +7,10 @@ use Rattle.vetting.proofs.Vetted.{StepsUpto, step_loops}
 use Rattle.vetting.proofs.are_steps_sound.Tie as tie
 use Rattle.vetting.proofs.are_steps_sound.Statement.{statement}
 
-abbrev invariant-loop : tie.invariant-loop
+abbrev invariant-loop : tie.invariant-loop-i
 invariant-loop steps shapes cells blocks n i₀ i = StepsUpto steps (shape_rows_in shapes) cells blocks n i
 
-abbrev decreases-loop : tie.decreases-loop
+abbrev decreases-loop : tie.decreases-loop-i
 decreases-loop steps shapes cells blocks n i₀ i = n - i
 
 pub are_steps_sound_spec : {M : Type 1} → statement M

@@ -11,25 +11,25 @@ is_step_sound_spec =
     (λ c. λ e. search steps)  -- put
     (λ c κs. search rules)
     (λ c. λ e. search steps)  -- name
-    (λ c. over _ _ c.if2.false)  -- its register
+    (λ c. over _ _ c.if-x-le-REGISTER.false)  -- its register
     (λ c. λ e. search steps)  -- code
-    (λ c. over _ _ c.if3.false)  -- its register
+    (λ c. over _ _ c.if-x-le-REGISTER-2.false)  -- its register
     (λ c. λ e. search steps)  -- add
-    (λ c. over _ _ c.if5.false)  -- its second register
-    (λ c. over _ _ c.if4.false)  -- its first
+    (λ c. over _ _ c.if-y-le-REGISTER.false)  -- its second register
+    (λ c. over _ _ c.if-x-le-REGISTER-3.false)  -- its first
     (λ c. λ e. search steps)  -- new
-    (λ c. over _ _ c.if7.false)  -- its second register
-    (λ c. over _ _ c.if6.false)  -- its first
+    (λ c. over _ _ c.if-z-le-REGISTER.false)  -- its second register
+    (λ c. over _ _ c.if-x-le-REGISTER-4.false)  -- its first
     (λ c. λ e. search steps)  -- read
-    (λ c. over _ _ c.if8.false)  -- its first register
+    (λ c. over _ _ c.if-x-le-REGISTER-5.false)  -- its first register
     (λ c. λ e. search steps)  -- write
-    (λ c. over _ _ c.if9.false)  -- its first register
+    (λ c. over _ _ c.if-x-le-REGISTER-6.false)  -- its first register
     (λ c. λ e. search steps)  -- relabel
-    (λ c. over _ _ c.if10.false)  -- its register
+    (λ c. over _ _ c.if-x-le-REGISTER-7.false)  -- its register
     (λ c. λ e. search steps)  -- lower
     (λ c. λ e. search steps)  -- start
     (λ c. λ e. search steps)  -- exec
     (λ c. λ e. search steps)  -- choose
-    (λ c. past _ _ c.if12.false)  -- its first block
-    (λ c. over _ _ c.if11.false)  -- its register
+    (λ c. past _ _ c.if-y-blocks.false)  -- its first block
+    (λ c. over _ _ c.if-x-le-REGISTER-8.false)  -- its register
     (λ c. wrong))  -- no step
