@@ -13,9 +13,9 @@ block_stretch_spec =
     tie.close
     (tie.spec
     (λ c κs. search rules)
-    (λ c. omega (arith, stretch_inside _ _ _ c.before.find_block.ensures))
+    (λ c. omega (arith, stretch_inside _ _ _ c.before.find_block-f.ensures))
     (λ c. search rules) (λ c. search rules)
     (λ c. search (stretches, rules))
     (λ c.
     let p = c.before.before.before.before.args.book.ptr in
-    (search stretches, ap {B = ℕ × ℕ} (λ (f : Found). (p.0, f.start + p.1)) c.before.before.find_block.ensures)))
+    (search stretches, ap {B = ℕ × ℕ} (λ (f : Found). (p.0, f.start + p.1)) c.before.before.find_block-f.ensures)))

@@ -7,10 +7,10 @@ use Rattle.book.proofs.Stages.{onward}
 use Rattle.reading.proofs.gather.fill.Tie as tie
 use Rattle.reading.proofs.gather.fill.Statement.{statement}
 
-abbrev invariant-loop : tie.invariant-loop
+abbrev invariant-loop : tie.invariant-loop-o
 invariant-loop s shape₀ cell₀ shaped₀ bound₀ start₀ size₀ n₀ o₀ shape cell shaped bound start size n o = Gathered s o shape cell shaped bound start size n
 
-abbrev decreases-loop : tie.decreases-loop
+abbrev decreases-loop : tie.decreases-loop-o
 decreases-loop s shape₀ cell₀ shaped₀ bound₀ start₀ size₀ n₀ o₀ shape cell shaped bound start size n o = lib.ListN.length s - o
 
 pub fill_spec : {M : Type 1} → statement M
