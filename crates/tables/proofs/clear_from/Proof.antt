@@ -5,10 +5,10 @@ use Rattle.tables.proofs.Parts.{Clearing, clears}
 use Rattle.tables.proofs.clear_from.Tie as tie
 use Rattle.tables.proofs.clear_from.Statement.{statement}
 
-abbrev invariant-loop : tie.invariant-loop
+abbrev invariant-loop : tie.invariant-loop-i
 invariant-loop dst₀ at i₀ i-end dst i = Clearing dst₀ at i-end dst i
 
-abbrev decreases-loop : tie.decreases-loop
+abbrev decreases-loop : tie.decreases-loop-i
 decreases-loop dst₀ at i₀ i-end dst i = i-end - i
 
 pub clear_from_spec : {M : Type 1} → statement M

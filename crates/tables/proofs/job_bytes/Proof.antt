@@ -5,10 +5,10 @@ use Rattle.tables.proofs.Saved.{RegistersIn, registers_on, register_saves}
 use Rattle.tables.proofs.job_bytes.Tie as tie
 use Rattle.tables.proofs.job_bytes.Statement.{statement}
 
-abbrev invariant-loop : tie.invariant-loop
+abbrev invariant-loop : tie.invariant-loop-i
 invariant-loop out₀ registers i₀ out i = RegistersIn out₀ registers out i
 
-abbrev decreases-loop : tie.decreases-loop
+abbrev decreases-loop : tie.decreases-loop-i
 decreases-loop out₀ registers i₀ out i = 8 - i
 
 pub job_bytes_spec : {M : Type 1} → statement M
@@ -24,6 +24,6 @@ job_bytes_spec =
     (λ c. search rules) (λ c. search rules) (λ c κs. search rules) (λ c. search rules) (λ c. search rules)
     -- the invariant holds again
     (λ c.
-    registers_on _ _ _ _ c.before.before.before.before.before.before.before.loop.invariant _ _ _ c.before.before.before.before.before.before.loop-test.true
-    c.before.before.before.before.value_bytes.ensures c.before.copy_in.ensures (search rules))
+    registers_on _ _ _ _ c.before.before.before.before.before.before.before.loop-i.invariant _ _ _ c.before.before.before.before.before.before.loop-i-test.true
+    c.before.before.before.before.value_bytes-b.ensures c.before.copy_in.ensures (search rules))
     (λ c. search register_saves))

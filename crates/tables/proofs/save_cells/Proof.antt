@@ -5,10 +5,10 @@ use Rattle.tables.proofs.Saved.{CellsIn, cell_saves}
 use Rattle.tables.proofs.save_cells.Tie as tie
 use Rattle.tables.proofs.save_cells.Statement.{statement}
 
-abbrev invariant-loop : tie.invariant-loop
+abbrev invariant-loop : tie.invariant-loop-i
 invariant-loop n shapes out₀ cells i₀ out i = CellsIn shapes cells n out i
 
-abbrev decreases-loop : tie.decreases-loop
+abbrev decreases-loop : tie.decreases-loop-i
 decreases-loop n shapes out₀ cells i₀ out i = n - i
 
 pub save_cells_spec : {M : Type 1} → statement M

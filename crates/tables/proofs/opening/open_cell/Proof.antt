@@ -9,4 +9,4 @@ pub open_cell_spec : {M : Type 1} → statement M
 open_cell_spec = tie.close
     (tie.spec
     (λ c κs. search rules) (λ c κs. search rules)
-    (λ c. opened_is c.before.before.before.args.d _ _ _ refl c.before.kind_in.ensures c.number_in.ensures))
+    (λ c. opened_is c.before.before.before.args.d _ _ _ refl c.before.kind_in-kind.ensures c.number_in-number.ensures))

@@ -6,10 +6,10 @@ use Rattle.tables.proofs.Opens.{Filling, fills}
 use Rattle.tables.proofs.opening.open_cells.Statement.{statement}
 use Rattle.tables.proofs.opening.open_cells.Tie as tie
 
-abbrev invariant-loop : tie.invariant-loop
+abbrev invariant-loop : tie.invariant-loop-i
 invariant-loop book offsets cells₀ i₀ cells i = Filling book offsets cells i
 
-abbrev decreases-loop : tie.decreases-loop
+abbrev decreases-loop : tie.decreases-loop-i
 decreases-loop book offsets cells₀ i₀ cells i = length offsets - i
 
 pub open_cells_spec : {M : Type 1} → statement M
