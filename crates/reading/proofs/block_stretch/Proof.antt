@@ -17,5 +17,5 @@ block_stretch_spec =
     (λ c. search rules) (λ c. search rules)
     (λ c. search (stretches, rules))
     (λ c.
-    let p = c.before.before.before.before.args.book.ptr in
+    let p = c.before.before.before.before.args.book.ref_ptr in
     (search stretches, ap {B = ℕ × ℕ} (λ (f : Found). (p.0, f.start + p.1)) c.before.before.find_block-f.ensures)))
