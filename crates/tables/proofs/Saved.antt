@@ -27,15 +27,13 @@ pub record RegistersIn (d : List ℕ) (registers : List Stored) (out : List ℕ)
   pub was : length d ≡ 52
   pub filled : Packing stored_record value_bytes 6 (take 4 d) registers d out i
 
--- of an array in a struct the length is known under `map`
-pub registers_start : {Y : Type 0} (g : Stored → Y) (d : List ℕ) (registers : List Stored) → length (map g registers) ≡ 8 → length d ≡ 52
-    → RegistersIn d registers d 0
-registers_start g d registers e was =
+pub registers_start : (d : List ℕ) (registers : List Stored) → length registers ≡ 8 → length d ≡ 52 → RegistersIn d registers d 0
+registers_start d registers e was =
     let l : length (take 4 d) ≡ 4 = length-take-le 4 d (omega arith) in
     let s : take 4 d ++ drop (length (take 4 d)) d ≡ d = rw l (take-append-drop 4 d) in
     record {
       few = omega arith;
-      eight = sym (length-map registers g) ∙ e;
+      eight = e;
       long = was;
       was = was;
       filled = rw s at (filled_start stored_record value_bytes 6 (take 4 d) registers d);

@@ -12,13 +12,13 @@ use Rattle.checking.proofs.Walks.{walks}
 use Rattle.checking.proofs.blocks.check_block.Tie as tie
 use Rattle.checking.proofs.blocks.check_block.Statement.{statement}
 
-abbrev invariant-loop : tie.invariant-loop
+abbrev invariant-loop : tie.invariant-loop-o
 invariant-loop shapes shaped bounds c stretch start s₀ o₀ s o =
     let B = table_view c shapes shaped bounds in
     (o ≤ length stretch) × Whole stretch o × (length s.registers ≡ 8)
     × (fault B (step_at stretch) s (steps_from stretch o) ≡ fault B (step_at stretch) s₀ (steps_from stretch o₀))
 
-abbrev decreases-loop : tie.decreases-loop
+abbrev decreases-loop : tie.decreases-loop-o
 decreases-loop shapes shaped bounds c stretch start s₀ o₀ s o = length stretch - o
 
 pub check_block_spec : {M : Type 1} → statement M

@@ -12,13 +12,13 @@ use Rattle.checking.proofs.BookRules.{rounds, round_good}
 use Rattle.checking.proofs.blocks.step_fault.Tie as tie
 use Rattle.checking.proofs.blocks.step_fault.Statement.{statement}
 
-abbrev invariant-loop : tie.invariant-loop
+abbrev invariant-loop : tie.invariant-loop-i
 invariant-loop book shapes shaped bounds c starts lengths i₀ i =
     let B = table_view c shapes shaped bounds in
     (i ≤ length bounds) × (length bounds ≡ length starts) × (length bounds ≡ length lengths)
     × (step_fault B book (drop i (blocks_of book)) ≡ step_fault B book (blocks_of book))
 
-abbrev decreases-loop : tie.decreases-loop
+abbrev decreases-loop : tie.decreases-loop-i
 decreases-loop book shapes shaped bounds c starts lengths i₀ i = length bounds - i
 
 pub step_fault_spec : {M : Type 1} → statement M
@@ -48,7 +48,7 @@ step_fault_spec =
       omega arith,
       search laids,
       search laids,
-      round_good _ _ _ _ entered.requires.1 _ round.loop-test.true _ _ start_read.offset_of.ensures length_read.offset_of2.ensures _ _ _
-          round.before.loop.invariant.3 c.before.before.check_block.ensures c.enum_told.given.1,
+      round_good _ _ _ _ entered.requires.1 _ round.loop-i-test.true _ _ start_read.offset_of-start.ensures length_read.offset_of-length.ensures _ _ _
+          round.before.loop-i.invariant.3 c.before.before.check_block.ensures c.enum_told-1.given.1,
     ))
     (λ c. search rounds))  -- at the end

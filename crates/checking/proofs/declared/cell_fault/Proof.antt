@@ -10,12 +10,12 @@ use Rattle.checking.proofs.DeclaredCells.{cells}
 use Rattle.checking.proofs.declared.cell_fault.Tie as tie
 use Rattle.checking.proofs.declared.cell_fault.Statement.{statement}
 
-abbrev invariant-loop : tie.invariant-loop
+abbrev invariant-loop : tie.invariant-loop-i
 invariant-loop book shapes shaped bounds c offsets i₀ i =
     let B = table_view c shapes shaped bounds in
     (i ≤ length offsets) × (cell_fault B book (drop i offsets) ≡ cell_fault B book offsets)
 
-abbrev decreases-loop : tie.decreases-loop
+abbrev decreases-loop : tie.decreases-loop-i
 decreases-loop book shapes shaped bounds c offsets i₀ i = length offsets - i
 
 pub cell_fault_spec : {M : Type 1} → statement M
