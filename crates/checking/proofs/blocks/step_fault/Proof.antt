@@ -44,7 +44,7 @@ step_fault_spec =
     let length_read = c.before.before.before.before.before in
     let start_read = length_read.before.before in
     let round = start_read.before.before in
-    let entered = round.before.before.before.before.before.before.before.before in (
+    let entered = round.before.before.before.before.before in (
       omega arith,
       search laids,
       search laids,
