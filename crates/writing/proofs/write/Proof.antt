@@ -12,7 +12,7 @@ write_spec =
     (λ c. search rules) (λ c. search rules) (λ c. search rules) (λ c. search rules)
     (λ c. search rules)  -- a long book
     (λ c. search rules)
-    (λ c. whole_count _ 128 _ _ _ refl c.before.before.before.lay_tables.ensures c.before.if1.false)
-    (λ c κs. whole_draft _ 128 _ _ _ refl c.before.before.before.before.lay_tables.ensures c.before.before.if1.false (search rules))
+    (λ c. whole_count _ 128 _ _ _ refl c.before.before.before.lay_tables-pen.ensures c.before.if-n-gt128.false)
+    (λ c κs. whole_draft _ 128 _ _ _ refl c.before.before.before.before.lay_tables-pen.ensures c.before.before.if-n-gt128.false (search rules))
     (λ c. search rules)
     (λ c. search rules))  -- a short one

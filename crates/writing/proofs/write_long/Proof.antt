@@ -11,9 +11,9 @@ write_long_spec =
     tie.close
     (tie.spec
     (λ c. search rules) (λ c. search rules) (λ c. search rules)
-    (λ c. too_long _ _ _ (past_draft _ 32768 _ _ _ refl c.before.before.before.lay_tables.ensures c.before.if1.true) c.refused.ensures)  -- refusal 1
+    (λ c. too_long _ _ _ (past_draft _ 32768 _ _ _ refl c.before.before.before.lay_tables-pen.ensures c.before.if-n-gt32768.true) c.refused.ensures)  -- refusal 1
     (λ c. search rules)
-    (λ c. whole_count _ 32768 _ _ _ refl c.before.before.before.lay_tables.ensures c.before.if1.false)
-    (λ c κs. whole_draft _ 32768 _ _ _ refl c.before.before.before.before.lay_tables.ensures c.before.before.if1.false (search rules))
+    (λ c. whole_count _ 32768 _ _ _ refl c.before.before.before.lay_tables-pen.ensures c.before.if-n-gt32768.false)
+    (λ c κs. whole_draft _ 32768 _ _ _ refl c.before.before.before.before.lay_tables-pen.ensures c.before.before.if-n-gt32768.false (search rules))
     (λ c. search rules)
     (λ c. search rules))  -- by the draft

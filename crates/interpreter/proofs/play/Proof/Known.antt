@@ -11,29 +11,29 @@ use Rattle.interpreter.proofs.Playing.{first_label, Playing, SomeStep}
 use Rattle.interpreter.proofs.Acting.{SomeAct}
 use Rattle.interpreter.proofs.play.Tie as tie
 
-abbrev pub InvLoop : tie.invariant-loop
+abbrev pub InvLoop : tie.invariant-loop-o
 InvLoop book c shapes offsets starts list cells jobs answers₀ held₀ begun₀ n₀ m₀ o₀ at₀ answers held begun n m o at =
     Playing book c (first_label begun₀) shapes offsets starts list cells jobs answers₀ answers held n begun m o at
 
-abbrev pub μ_loop : tie.decreases-loop
+abbrev pub μ_loop : tie.decreases-loop-o
 μ_loop book c shapes offsets starts list cells jobs answers₀ held₀ begun₀ n₀ m₀ o₀ at₀ answers held begun n m o at =
     length list - o
 
-abbrev pub InvLoop2 : tie.invariant-loop2
+abbrev pub InvLoop2 : tie.invariant-loop-y
 InvLoop2 book shapes offsets starts list cells jobs₀ answers begun n m o at y₀ jobs y = JobsIn begun m jobs y
 
-abbrev pub μ_loop2 : tie.decreases-loop2
+abbrev pub μ_loop2 : tie.decreases-loop-y
 μ_loop2 book shapes offsets starts list cells jobs₀ answers begun n m o at y₀ jobs y = m - y
 
 -- what is known where a step's cell was looked up
 abbrev pub Looked : Type 0
-Looked = tie.After-cell InvLoop μ_loop InvLoop2 μ_loop2
+Looked = tie.After-cell-1 InvLoop μ_loop InvLoop2 μ_loop2
 
 abbrev pub stepping : Looked → SomeStep
 stepping p =
     let turn = p.before.before.before.before.before.before.before in
     let begun = turn.before.before.before.before in
-    let w = begun.before.before.before.loop.inv in
+    let w = begun.before.before.before.loop-o.inv in
     record {
       b = _;
       c = _;
@@ -59,25 +59,25 @@ stepping p =
       t = _;
       q = _;
       w = w;
-      h = begun.before.before.loop-test.taken;
-      here = begun.if1.taken;
-      ei = turn.before.before.before.byte.ensures;
+      h = begun.before.before.loop-o-test.taken;
+      here = begun.if-kind-eq-STEP.taken;
+      ei = turn.before.before.before.byte-i.ensures;
       known = record {
         holds = w.going.holds;
         readable = w.setting.drawn.readable;
         starts_are = w.setting.drawn.starts_are;
-        r = turn.before.before.if2.taken;
+        r = turn.before.before.if-i-m.taken;
         ez = refl;
-        eu = turn.before.step_end.ensures;
-        un = turn.if3.left;
-        et = p.before.before.before.target_of.ensures;
-        eq = p.before.clamp.ensures.0;
+        eu = turn.before.step_end-past.ensures;
+        un = turn.if-past-eq0.left;
+        et = p.before.before.before.target_of-u.ensures;
+        eq = p.before.clamp-q.ensures.0;
       };
     }
 
 -- what is known where an outsider's cell was looked up
 abbrev pub Aimed : Type 0
-Aimed = tie.After-cell2 InvLoop μ_loop InvLoop2 μ_loop2
+Aimed = tie.After-cell-then-is_such-1 InvLoop μ_loop InvLoop2 μ_loop2
 
 abbrev pub acting : Aimed → SomeAct
 acting p =
@@ -107,14 +107,14 @@ acting p =
       k = _;
       q = _;
       known = record {
-        w = begun.before.before.before.loop.inv;
-        h = begun.before.before.loop-test.taken;
-        ep = such.before.before.next_event.ensures;
-        here = begun.if1.left;
-        ee = such.before.before.before.event_at.ensures;
+        w = begun.before.before.before.loop-o.inv;
+        h = begun.before.before.loop-o-test.taken;
+        ep = such.before.before.next_event-o.ensures;
+        here = begun.if-kind-eq-STEP.left;
+        ee = such.before.before.before.event_at-e.ensures;
         ef = such.before.is_such.ensures;
-        t = such.if8.taken;
-        ek = p.before.before.aimed_at.ensures;
-        eq = p.before.clamp2.ensures.0;
+        t = such.if-is_such.taken;
+        ek = p.before.before.aimed_at-k.ensures;
+        eq = p.before.clamp-q-then-is_such.ensures.0;
       };
     }

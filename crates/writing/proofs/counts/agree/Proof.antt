@@ -5,10 +5,10 @@ use Rattle.writing.proofs.Counted.{Counting, counts}
 use Rattle.writing.proofs.counts.agree.Tie as tie
 use Rattle.writing.proofs.counts.agree.Statement.{statement}
 
-abbrev invariant-loop : tie.invariant-loop
+abbrev invariant-loop : tie.invariant-loop-i
 invariant-loop blocks steps n left₀ i₀ left i = Counting blocks steps n left i
 
-abbrev decreases-loop : tie.decreases-loop
+abbrev decreases-loop : tie.decreases-loop-i
 decreases-loop blocks steps n left₀ i₀ left i = n - i
 
 pub agree_spec : {M : Type 1} → statement M

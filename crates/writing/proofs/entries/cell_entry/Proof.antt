@@ -11,4 +11,4 @@ cell_entry_spec =
     (λ c. search rules) (λ c. search rules) (λ c. search rules) (λ c. search rules) (λ c. search rules)
     (λ c. search rules) (λ c. search rules) (λ c. search rules) (λ c. search rules) (λ c. search rules)
     (λ c. search rules) (λ c. search rules) (λ c. search rules)
-    (λ c. entered_cell _ (λ i. (c.shared-slice-known7.given i).fits) _))
+    (λ c. entered_cell _ (λ i. (c.shared_slice_known-7-1.given i).fits) _))

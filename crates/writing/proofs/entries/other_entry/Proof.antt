@@ -13,7 +13,7 @@ other_entry_spec =
     (λ c. search rules) (λ c. search rules) (λ c. search rules) (λ c. search rules) (λ c. search rules)
     (λ c. search rules) (λ c. search rules) (λ c. search rules) (λ c. search rules) (λ c. search rules)
     (λ c. search rules)
-    (λ c. entered_no_step _ _ (λ z. c.if1.true (c.before.group_of.ensures ∙ z)))  -- no step
+    (λ c. entered_no_step _ _ (λ z. c.if-group_of-ne-STEPS.true (c.before.group_of.ensures ∙ z)))  -- no step
     (λ c. search rules) (λ c. search rules) (λ c. search rules) (λ c. search rules)
-    (λ c. entered_step _ _ (λ i. (c.before.before.before.before.before.shared-slice-known9.given i).fits) _ _ _
-    (search rules) (search rules) c.before.before.span_of.ensures c.before.some_digit.ensures c.is_spare.ensures))  -- a step
+    (λ c. entered_step _ _ (λ i. (c.before.before.before.before.before.shared_slice_known-9-1.given i).fits) _ _ _
+    (search rules) (search rules) c.before.before.span_of-n.ensures c.before.some_digit-number.ensures c.is_spare-spare.ensures))  -- a step

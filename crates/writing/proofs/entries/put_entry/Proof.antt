@@ -11,4 +11,4 @@ put_entry_spec =
     (λ c. search rules) (λ c. search rules) (λ c. search rules) (λ c. search rules) (λ c. search rules)
     (λ c. search rules) (λ c. search rules) (λ c. search rules) (λ c. search rules) (λ c. search rules)
     (λ c. search rules) (λ c. search rules) (λ c. search rules) (λ c. search rules) (λ c. search rules)
-    (λ c. entered_put _ (λ i. (c.shared-slice-known8.given i).fits) _ (search rules) _ (search rules)))
+    (λ c. entered_put _ (λ i. (c.shared_slice_known-8-1.given i).fits) _ (search rules) _ (search rules)))

@@ -6,10 +6,10 @@ use Rattle.writing.proofs.BlockDrafts.{Blocking, blocking_start, blockings}
 use Rattle.writing.proofs.laying.lay_blocks.Tie as tie
 use Rattle.writing.proofs.laying.lay_blocks.Statement.{statement}
 
-abbrev invariant-loop : tie.invariant-loop
+abbrev invariant-loop : tie.invariant-loop-i
 invariant-loop draft₀ blocks steps n m limit pen₀ i₀ j₀ draft pen i j = Blocking blocks steps n m limit draft₀ pen₀ draft pen i j
 
-abbrev decreases-loop : tie.decreases-loop
+abbrev decreases-loop : tie.decreases-loop-i
 decreases-loop draft₀ blocks steps n m limit pen₀ i₀ j₀ draft pen i j = n - i
 
 pub lay_blocks_spec : {M : Type 1} → statement M

@@ -8,10 +8,10 @@ use Rattle.writing.proofs.Drafts.{Laying, laying_start, laying_on, cell_layings}
 use Rattle.writing.proofs.laying.lay_cells.Tie as tie
 use Rattle.writing.proofs.laying.lay_cells.Statement.{statement}
 
-abbrev invariant-loop : tie.invariant-loop
+abbrev invariant-loop : tie.invariant-loop-i
 invariant-loop draft₀ cells n limit pen₀ i₀ draft pen i = (n ≡ length cells / 7) × Laying (λ i. cell_row (cell_row_in cells (i * 7))) 0 n limit draft₀ pen₀ draft pen i
 
-abbrev decreases-loop : tie.decreases-loop
+abbrev decreases-loop : tie.decreases-loop-i
 decreases-loop draft₀ cells n limit pen₀ i₀ draft pen i = n - i
 
 pub lay_cells_spec : {M : Type 1} → statement M
@@ -31,8 +31,8 @@ lay_cells_spec =
     (λ c. (
       search rules,
       let k = c.before.before.before.before.before in
-          laying_on _ _ _ _ _ _ _ _ _ k.before.before.before.loop.invariant.1 _ _ _ k.before.before.loop-test.true
-          k.if1.false c.before.before.before.before.cell_entry.ensures (search rules) (search rules),
+          laying_on _ _ _ _ _ _ _ _ _ k.before.before.before.loop-i.invariant.1 _ _ _ k.before.before.loop-i-test.true
+          k.if-limit-pen.false c.before.before.before.before.cell_entry-e.ensures (search rules) (search rules),
     ))  -- the invariant holds again
     (λ c. search rules)
     (λ c. search cell_layings))  -- all rows

@@ -8,10 +8,10 @@ use Rattle.writing.proofs.Drafts.{Laying, laying_start, laying_on, step_layings}
 use Rattle.writing.proofs.laying.lay_steps.Tie as tie
 use Rattle.writing.proofs.laying.lay_steps.Statement.{statement}
 
-abbrev invariant-loop : tie.invariant-loop
+abbrev invariant-loop : tie.invariant-loop-i
 invariant-loop draft₀ steps from end limit pen₀ i₀ draft pen i = (end ≤ length steps / 8) × Laying (λ i. step_row (step_row_in steps (i * 8))) i₀ end limit draft₀ pen₀ draft pen i
 
-abbrev decreases-loop : tie.decreases-loop
+abbrev decreases-loop : tie.decreases-loop-i
 decreases-loop draft₀ steps from end limit pen₀ i₀ draft pen i = end - i
 
 pub lay_steps_spec : {M : Type 1} → statement M
@@ -30,8 +30,8 @@ lay_steps_spec =
     (λ c. (
       search rules,
       let k = c.before.before.before.before.before.before in
-          laying_on _ _ _ _ _ _ _ _ _ k.before.before.before.before.loop.invariant.1 _ _ _ k.before.before.before.loop-test.true
-          k.before.if1.false c.before.before.before.before.put_entry.ensures (search rules) (search rules),
+          laying_on _ _ _ _ _ _ _ _ _ k.before.before.before.before.loop-i.invariant.1 _ _ _ k.before.before.before.loop-i-test.true
+          k.before.if-limit-pen.false c.before.before.before.before.put_entry-e.ensures (search rules) (search rules),
     ))  -- put
     (λ c κs. search rules)
     (λ c κs. search step_layings)
@@ -39,8 +39,8 @@ lay_steps_spec =
     (λ c. (
       search rules,
       let k = c.before.before.before.before.before.before in
-          laying_on _ _ _ _ _ _ _ _ _ k.before.before.before.before.loop.invariant.1 _ _ _ k.before.before.before.loop-test.true
-          k.before.if1.false c.before.before.before.before.other_entry.ensures (search rules) (search rules),
+          laying_on _ _ _ _ _ _ _ _ _ k.before.before.before.before.loop-i.invariant.1 _ _ _ k.before.before.before.loop-i-test.true
+          k.before.if-limit-pen.false c.before.before.before.before.other_entry-e.ensures (search rules) (search rules),
     ))  -- any other
     (λ c. search rules)
     (λ c. search step_layings))  -- all rows

@@ -12,5 +12,5 @@ lay_tables_spec =
     (λ c. search rules)
     (λ c. let s = c.before.before.before.before.before.before.before.before.before.before in
     let f = s.before.before.before.before in
-    tables_lay _ _ _ _ _ _ _ _ _ _ _ _ _ _ _ f.before.before.c-entry.ensures s.before.before.before.before.before.before.before.before.before.before.before.before.requires
-    f.lay.ensures.0 f.lay.ensures.1 s.lay_shapes.ensures c.before.before.before.before.before.before.lay_cells.ensures c.before.before.lay_blocks.ensures))
+    tables_lay _ _ _ _ _ _ _ _ _ _ _ _ _ _ _ f.before.before.c_entry-e.ensures s.before.before.before.before.before.before.before.before.before.before.before.before.requires
+    f.lay-pen.ensures.0 f.lay-pen.ensures.1 s.lay_shapes-pen.ensures c.before.before.before.before.before.before.lay_cells-pen.ensures c.before.before.lay_blocks.ensures))
