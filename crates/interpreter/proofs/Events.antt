@@ -54,6 +54,7 @@ module _ (b : List ℕ) (shape : ℕ → Shape) (shapes_are : (i : ℕ) → shap
       → outcome_of sources table_size (parse b) s e
       ≡ given (such (parse b).c shape blocks (length s.cells) e) (landed s s (outside s e)) (unchanged no_such s)
   unfolding outcome_of such such_write such_relabel such_new such_number such_value low_cell_shape outside
+  act_is (StepOf i) x = elim x [ ]
   act_is (WriteBy q k v n) writes = rw blocks_are refl
   act_is (RelabelBy q k l) relabels = refl
   act_is (NewBy q i v n) makes = rw (blocks_are, shapes_are i) refl

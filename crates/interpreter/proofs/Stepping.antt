@@ -7,10 +7,6 @@ use mathlib.Core.Bool.{not}
 use mathlib.Core.List.{List, map}
 use Prim.Native.Nat.{ℕ, zero, suc, ◌+◌, ◌-◌, ◌<◌, ◌≤◌}
 use native.Mathlib.Omega.{arith}
-use denote.Enum.Declared.{tag_of}
-use types.Run.{OneOf, miss}
-use mir.Val.{has_key}
-use lib.Dec.{T}
 use lib.ListN.{length, get_or, set}
 use Rattle.labels.specs.declared.Label.{Label}
 use Rattle.book.specs.declared.Refusal.TheVariants.{Passed}
@@ -34,9 +30,8 @@ use Rattle.acts.specs.declared.StoredJob.{StoredJob}
 use Rattle.acts.specs.declared.Stored.{Stored}
 use Rattle.acts.specs.declared.Act.{Act}
 use Rattle.acts.specs.declared.Act.TheVariants.{Blocked, Give, Lower, Store, Create, Launch}
-use Rattle.acts.specs.Views.{value_in, stored_of, job_of, nearby, effect_of, job_after, answer_of, lowered, clamped, sort_of, Only, waits, acts}
+use Rattle.acts.specs.Views.{value_in, stored_of, job_of, nearby, effect_of, job_after, answer_of, lowered, clamped, give_sort, lower_sort, store_sort, create_sort, launch_sort, sort_of, Only, waits, acts}
 use Rattle.turns.specs.Turns.{target_in, reached_in, Takes, Gives, Changes, Launches}
-use Rattle.acts.specs.contracts.Act.{the_type}
 use Rattle.turns.proofs.Targets.{target_number}
 use Rattle.interpreter.proofs.Nearby.{Allowed, store_inside, create_room, launch_room}
 use Rattle.tables.specs.Opening.{start_in}
@@ -66,23 +61,38 @@ above k b e l n = go (k - 72) refl
 pub step_stands : (b : List ℕ) (z u : ℕ) → u ≡ step_end b z → (u ≡ 0 → ⊥) → (z ≤ length b) × (64 ≤ byte_at b z)
 step_stands b z u eu un = (omega (arith, Decoded.step_inside b z u eu un), (Decoded.step_kind b z u eu un).0)
 
--- an effect that is not of the one kind that it could be is blocked: the code tells it by the numbers of the other kinds
-elsewhere : (n : ℕ) (ks : List ℕ) (i : ℕ) → i ≡ n → T (not (has_key ks n)) → OneOf ks i → ⊥
-elsewhere n ks i e a k = miss ks i (rw e a) k
-
-blocks : (n : ℕ) (ks : List ℕ) (x : Act) → Only n x → T (not (has_key ks n)) → OneOf ks (tag_of the_type x) → x ≡ Blocked
+-- an effect that is not of the one kind that it could be is blocked
+blocks : (n : ℕ) (x : Act) → Only n x → (sort_of x ≡ n → ⊥) → x ≡ Blocked
 unfolding sort_of
-blocks n ks Blocked o a k = refl
-blocks n ks (Give r v) (waits e) a k = absurd (omega arith)
-blocks n ks (Give r v) (acts e) a k = absurd (elsewhere n ks 1 e a k)
-blocks n ks (Lower l s) (waits e) a k = absurd (omega arith)
-blocks n ks (Lower l s) (acts e) a k = absurd (elsewhere n ks 2 e a k)
-blocks n ks (Store y) (waits e) a k = absurd (omega arith)
-blocks n ks (Store y) (acts e) a k = absurd (elsewhere n ks 3 e a k)
-blocks n ks (Create r y) (waits e) a k = absurd (omega arith)
-blocks n ks (Create r y) (acts e) a k = absurd (elsewhere n ks 4 e a k)
-blocks n ks (Launch y l s) (waits e) a k = absurd (omega arith)
-blocks n ks (Launch y l s) (acts e) a k = absurd (elsewhere n ks 5 e a k)
+blocks n Blocked o k = refl
+blocks n x (waits e) k = absurd (omega arith)
+blocks n x (acts e) k = absurd (k e)
+
+-- the code tells it by the one kind
+pub no_give : (x : Act) → ((r : ℕ) (v : Stored) → x ≡ Give r v → ⊥) → sort_of x ≡ give_sort → ⊥
+unfolding sort_of
+no_give (Give r v) k e = k r v refl
+no_give x k e = omega arith
+
+pub no_lower : (x : Act) → ((l s : Label) → x ≡ Lower l s → ⊥) → sort_of x ≡ lower_sort → ⊥
+unfolding sort_of
+no_lower (Lower l s) k e = k l s refl
+no_lower x k e = omega arith
+
+pub no_store : (x : Act) → ((y : StoredCell) → x ≡ Store y → ⊥) → sort_of x ≡ store_sort → ⊥
+unfolding sort_of
+no_store (Store y) k e = k y refl
+no_store x k e = omega arith
+
+pub no_create : (x : Act) → ((r : ℕ) (y : StoredCell) → x ≡ Create r y → ⊥) → sort_of x ≡ create_sort → ⊥
+unfolding sort_of
+no_create (Create r y) k e = k r y refl
+no_create x k e = omega arith
+
+pub no_launch : (x : Act) → ((b : ℕ) (l s : Label) → x ≡ Launch b l s → ⊥) → sort_of x ≡ launch_sort → ⊥
+unfolding sort_of
+no_launch (Launch b l s) k e = k b l s refl
+no_launch x k e = omega arith
 
 -- a step that stands, its cell looked up: the state and the arrays that hold it, the job's number i, where the step stands, z, and ends, u, the
 -- register t that names the cell, and its entry q of the table
@@ -166,8 +176,8 @@ module _ {b starts : List ℕ} {state : State Label} {cells : List StoredCell} {
     unfolding job_after state_of answer_of
     step_blocked e = stepped (get_or jobs i d) (rw e refl) 1 (rw e refl) cells n jobs m (rw e step.holds)
 
-    pub step_waits : (ks : List ℕ) → T (not (has_key ks f)) → OneOf ks (tag_of the_type x) → Onward 1 cells n jobs m
-    step_waits ks a k = step_blocked (blocks f ks x ex.only a k)
+    pub step_waits : (sort_of x ≡ f → ⊥) → Onward 1 cells n jobs m
+    step_waits k = step_blocked (blocks f x ex.only k)
 
     pub step_room : (y : ℕ) (v : StoredCell) → x ≡ Create y v → n < 64
     unfolding effect_of

@@ -32,7 +32,7 @@ schedule_spec =
     (λ c κs. short_enough c.before.before.before.before.before.before.before.before.before.before.before.requires)
     (λ c. search rules)
     (λ c. round_start _ _ _ _ _ _ _ _ c.before.before.before.before.before.before.before.before.before.before.before.before.requires _ _ _ _ _ (search
-    rules) c.before.before.before.before.open_cells.ensures c.before.before.start_of_lem.ensures c.before.fresh2.ensures _ _ c.pend.ensures)
+    rules) c.before.before.before.before.open_cells.ensures c.before.before.start_of.ensures c.before.fresh2.ensures _ _ c.pend.ensures)
     -- the next job
     (λ c κs. search rules)
     (λ c. pending_fits _ (round_entry c.before.before.loop.invariant _ (round_begins c.before.before.loop.invariant _ c.first_place.ensures).0))

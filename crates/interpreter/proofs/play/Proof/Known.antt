@@ -31,9 +31,9 @@ Looked = tie.After-cell-1 InvLoop μ_loop InvLoop2 μ_loop2
 
 abbrev pub stepping : Looked → SomeStep
 stepping p =
-    let turn = p.before.before.before.before.before.before.before in
-    let begun = turn.before.before.before.before in
-    let w = begun.before.before.before.loop-o.inv in
+    let turn = p in
+    let begun = p in
+    let w = begun.loop-o.invariant in
     record {
       b = _;
       c = _;
@@ -59,19 +59,19 @@ stepping p =
       t = _;
       q = _;
       w = w;
-      h = begun.before.before.loop-o-test.taken;
-      here = begun.if-kind-eq-STEP.taken;
-      ei = turn.before.before.before.byte-i.ensures;
+      h = begun.loop-o-test.true;
+      here = begun.if-kind-eq-STEP.true;
+      ei = turn.byte-i.ensures;
       known = record {
         holds = w.going.holds;
         readable = w.setting.drawn.readable;
         starts_are = w.setting.drawn.starts_are;
-        r = turn.before.before.if-i-m.taken;
+        r = turn.if-i-m.true;
         ez = refl;
-        eu = turn.before.step_end-past.ensures;
-        un = turn.if-past-eq0.left;
-        et = p.before.before.before.target_of-u.ensures;
-        eq = p.before.clamp-q.ensures.0;
+        eu = turn.step_end-past.ensures;
+        un = turn.if-past-eq0.false;
+        et = p.target_of-u.ensures;
+        eq = p.clamp-q.ensures.0;
       };
     }
 
@@ -81,8 +81,8 @@ Aimed = tie.After-cell-then-is_such-1 InvLoop μ_loop InvLoop2 μ_loop2
 
 abbrev pub acting : Aimed → SomeAct
 acting p =
-    let such = p.before.before.before in
-    let begun = such.before.before.before.before in
+    let such = p in
+    let begun = p in
     record {
       b = _;
       c = _;
@@ -107,14 +107,14 @@ acting p =
       k = _;
       q = _;
       known = record {
-        w = begun.before.before.before.loop-o.inv;
-        h = begun.before.before.loop-o-test.taken;
-        ep = such.before.before.next_event-o.ensures;
-        here = begun.if-kind-eq-STEP.left;
-        ee = such.before.before.before.event_at-e.ensures;
-        ef = such.before.is_such.ensures;
-        t = such.if-is_such.taken;
-        ek = p.before.before.aimed_at-k.ensures;
-        eq = p.before.clamp-q-then-is_such.ensures.0;
+        w = begun.loop-o.invariant;
+        h = begun.loop-o-test.true;
+        ep = such.next_event-o.ensures;
+        here = begun.if-kind-eq-STEP.false;
+        ee = such.event_at-e.ensures;
+        ef = such.is_such.ensures;
+        t = such.if-is_such.true;
+        ek = p.aimed_at-k.ensures;
+        eq = p.clamp-q-then-is_such.ensures.0;
       };
     }

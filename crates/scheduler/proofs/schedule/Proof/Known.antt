@@ -59,7 +59,7 @@ chosen c =
       h = h;
       next = elim c.if1.branch [
         | inl x ↦ round_next w _ eb h _ x.1.ensures _ x.3.given.1 ∙ ap At (sym x.5)
-        | inr x ↦ round_here w _ eb _ x.0.left ∙ ap At (sym x.1)
+        | inr x ↦ round_here w _ eb _ x.0.false ∙ ap At (sym x.1)
       ];
     }
 
