@@ -14,8 +14,8 @@ run_spec =
     (λ c κs.
     let f = c.before.before.before.before.before.before in
     let s = f.before.before.before.before in
-    run_runnable _ _ _ _ _ _ _ s.before.read.ensures _ s.scan.ensures _ f.before.refuse_launch.ensures _ f.refuse.ensures
-    c.before.before.before.before.enum_told.given.1)
+    run_runnable _ _ _ _ _ _ _ s.before.read-r.ensures _ s.scan-s.ensures _ f.before.refuse_launch-launched.ensures _ f.refuse-refusal.ensures
+    c.before.before.before.before.enum_told-1.given.1)
     (λ c. (search (runs, rules), (omega arith, omega arith)))  -- Refusal::Refused { number, place }
     (λ c. search rules) (λ c. search rules) (λ c. search rules)
     (λ c. search (runs, rules)))  -- Refusal::Passed

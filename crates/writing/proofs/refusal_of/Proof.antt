@@ -14,6 +14,6 @@ refusal_of_spec =
     (λ c. search rules) (λ c. search rules)
     (λ c. search (unsound_strange, counted_rows))  -- a row of no kind
     (λ c. search rules)
-    (λ c κs. unsound_whole _ _ _ c.before.before.before.before.before.before.before.before.before.before.before.requires c.enum_told-1.given.1)
+    (λ c κs. unsound_whole _ _ _ c.requires c.in_default.is)
     (λ c. search (unsound_judged, counted_rows))  -- by the reader
     (λ c. search (unsound_counts, counted_rows)))  -- counts
