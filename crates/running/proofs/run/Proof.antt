@@ -12,10 +12,10 @@ run_spec =
     (λ c κs. search rules) (λ c κs. search rules) (λ c. search rules) (λ c κs. search rules) (λ c κs. search rules) (λ c. search rules) (λ c. search rules)
     (λ c κs. search rules)
     (λ c κs.
-    let f = c.before.before.before.before.before.before in
-    let s = f.before.before.before.before in
-    run_runnable _ _ _ _ _ _ _ s.before.read-r.ensures _ s.scan-s.ensures _ f.before.refuse_launch-launched.ensures _ f.refuse-refusal.ensures
-    c.before.before.before.before.enum_told-1.given.1)
+    let f = c in
+    let s = f in
+    run_runnable _ _ _ _ _ _ _ s.read-r.ensures _ s.scan-s.ensures _ f.refuse_launch-launched.ensures _ f.refuse-refusal.ensures
+    c.in-Passed.is)
     (λ c. (search (runs, rules), (omega arith, omega arith)))  -- Refusal::Refused { number, place }
     (λ c. search rules) (λ c. search rules) (λ c. search rules)
     (λ c. search (runs, rules)))  -- Refusal::Passed

@@ -32,41 +32,41 @@ schedule_spec =
     (λ c κs. short_enough c.before.before.before.before.before.before.before.before.before.before.before.requires)
     (λ c. search rules)
     (λ c. round_start _ _ _ _ _ _ _ _ c.before.before.before.before.before.before.before.before.before.before.before.before.requires _ _ _ _ _ (search
-    rules) c.before.before.before.before.open_cells.ensures c.before.before.start_of.ensures c.before.fresh2.ensures _ _ c.pend.ensures)
+    rules) c.before.before.before.before.open_cells-held.ensures c.before.before.start_of-start.ensures c.before.fresh-first.ensures _ _ c.pend-ready.ensures)
     -- the next job
     (λ c κs. search rules)
-    (λ c. pending_fits _ (round_entry c.before.before.loop.invariant _ (round_begins c.before.before.loop.invariant _ c.first_place.ensures).0))
-    (λ c. let f = round_begins c.before.before.loop.invariant _ c.first_place.ensures in let l = f.0 in let r = f.1 in search rules)
+    (λ c. pending_fits _ (round_entry c.before.before.loop-at.invariant _ (round_begins c.before.before.loop-at.invariant _ c.first_place-begin.ensures).0))
+    (λ c. let f = round_begins c.before.before.loop-at.invariant _ c.first_place-begin.ensures in let l = f.0 in let r = f.1 in search rules)
     -- it has no step left: the others are looked at
-    (λ c κs. round_begins c.before.before.before.loop.invariant _ c.before.first_place.ensures)
+    (λ c κs. round_begins c.before.before.before.loop-at.invariant _ c.before.first_place-begin.ensures)
     (λ c. search rules)
-    (λ c. round_stops c.before.before.before.before.before.before.loop.invariant c.before.before.before.before.before.loop-test.true)
-    (λ c. round_over c.before.before.before.before.before.before.loop.invariant _ c.before.before.before.before.first_place.ensures c.before.before.before.before.before.loop-test.true _ c.before.before.next_of.ensures c.enum_told.given.1)
+    (λ c. round_stops c.before.before.before.before.before.before.loop-at.invariant c.before.before.before.before.before.loop-at-test.true)
+    (λ c. round_over c.before.before.before.before.before.before.loop-at.invariant _ c.before.before.before.before.first_place-begin.ensures c.before.before.before.before.before.loop-at-test.true _ c.before.before.next_of-found.ensures c.enum_told-1.given.1)
     (λ c. search rules)
     -- the job, and its step
-    (λ c. let f = round_turns c.before.before.before.loop.invariant in search rules)
+    (λ c. let f = round_turns c.before.before.before.loop-at.invariant in search rules)
     (λ c.
-    let f = round_entry c.before.before.before.before.loop.invariant _ (round_inside c.before.before.before.before.loop.invariant _ (chosen c.before
+    let f = round_entry c.before.before.before.before.loop-at.invariant _ (round_inside c.before.before.before.before.loop-at.invariant _ (chosen c.before
     ).next) in
     search rules)
-    (λ c. pending_fits _ (round_entry c.before.before.before.before.loop.invariant _ (round_inside c.before.before.before.before.loop.invariant _ (chosen c.before).next)))
+    (λ c. pending_fits _ (round_entry c.before.before.before.before.loop-at.invariant _ (round_inside c.before.before.before.before.loop-at.invariant _ (chosen c.before).next)))
     (λ c.
-    let f = round_entry c.before.before.before.before.loop.invariant _ (round_inside c.before.before.before.before.loop.invariant _ (chosen c.before
+    let f = round_entry c.before.before.before.before.loop-at.invariant _ (round_inside c.before.before.before.before.loop-at.invariant _ (chosen c.before
     ).next) in
     search rules)
     (λ c κs. search rules)
     (λ c.
-    let f = round_entry c.before.before.before.before.before.loop.invariant _ (round_inside c.before.before.before.before.before.loop.invariant _ (chosen
+    let f = round_entry c.before.before.before.before.before.loop-at.invariant _ (round_inside c.before.before.before.before.before.loop-at.invariant _ (chosen
     c.before.before).next) in
     search rules)
     (λ c.
-    let f = round_entry c.before.before.before.before.before.loop.invariant _ (round_inside c.before.before.before.before.before.loop.invariant _ (chosen
+    let f = round_entry c.before.before.before.before.before.loop-at.invariant _ (round_inside c.before.before.before.before.before.loop-at.invariant _ (chosen
     c.before.before).next) in
     search rules)
     (λ c κs. search rules)
     (λ c κs.
     let n = (chosen c.before.before.before.before.before).next in
-    step_stands _ _ _ (round_ends c.before.before.before.before.before.before.before.before.loop.invariant _ n _ _ c.before.before.before.offset_of.ensures _) (round_stands c.before.before.before.before.before.before.before.before.loop.invariant _ n _ _ c.before.before.before.offset_of.ensures))
+    step_stands _ _ _ (round_ends c.before.before.before.before.before.before.before.before.loop-at.invariant _ n _ _ c.before.before.before.offset_of-past.ensures _) (round_stands c.before.before.before.before.before.before.before.before.loop-at.invariant _ n _ _ c.before.before.before.offset_of-past.ensures))
     (λ c. search rules)
     (λ c κs. search rules)
     (λ c. search rules)
@@ -74,7 +74,7 @@ schedule_spec =
     -- new: done
     (λ c κs.
     let s = stepping c.before in
-    step_creates s.known _ c.before.before.before.before.before.before.byte.ensures c.if2.true)
+    step_creates s.known _ c.before.before.before.before.before.before.byte-k.ensures c.if-k-eq-NEW.true)
     (λ c. search rules)
     (λ c κs.
     let s = stepping c.before.before.before.before.before in
@@ -83,15 +83,15 @@ schedule_spec =
     (λ c. let s = stepping c.before.before.before.before.before.before in let f = round_entry s.of.w _ s.known.r in search rules)
     (λ c.
     let s = stepping c.before.before.before.before.before.before in
-    let f = step_room s.known _ _ refl _ _ c.before.before.before.before.create.ensures _ _ c.before.before.x.given.1 in
+    let f = step_room s.known _ _ refl _ _ c.before.before.before.before.create-x.ensures _ _ c.before.before.x-1.given.1 in
     search rules)
     (λ c.
     let s = stepping c.before.before.before.before.before.before in
-    let f = step_room s.known _ _ refl _ _ c.before.before.before.before.create.ensures _ _ c.before.before.x.given.1 in
+    let f = step_room s.known _ _ refl _ _ c.before.before.before.before.create-x.ensures _ _ c.before.before.x-1.given.1 in
     search rules)
     (λ c.
     let s = stepping c.before.before.before.before.before.before in
-    let f = step_room s.known _ _ refl _ _ c.before.before.before.before.create.ensures _ _ c.before.before.x.given.1 in
+    let f = step_room s.known _ _ refl _ _ c.before.before.before.before.create-x.ensures _ _ c.before.before.x-1.given.1 in
     search rules)
     (λ c κs. let s = stepping c.before.before.before.before.before.before in round_short s.of.w)
     (λ c.
@@ -106,18 +106,18 @@ schedule_spec =
     (λ c. let s = stepping c.before.before.before.before.before.before.before in round_falls s.of.w s.of.h)
     (λ c.
     let s = stepping c.before.before.before.before.before.before.before in
-    goes_on s (step_create s.known _ _ refl _ _ c.before.before.before.before.before.create.ensures _ _ _ c.before.before.before.x.given.1
-    c.before.names.ensures) (moves s _ _ c.before.names.ensures.1 c.pend2.ensures))
+    goes_on s (step_create s.known _ _ refl _ _ c.before.before.before.before.before.create-x.ensures _ _ _ c.before.before.before.x-1.given.1
+    c.before.names-t.ensures) (moves s _ _ c.before.names-t.ensures.1 c.pend-p.ensures))
     -- blocked
     (λ c. let s = stepping c.before.before.before in let f = round_fits s.of.w s.of.h in search rules)
     (λ c. let s = stepping c.before.before.before in round_falls s.of.w s.of.h)
     (λ c.
     let s = stepping c.before.before.before in
-    goes_on s (step_waits s.known _ _ refl _ _ c.before.create.ensures (0 ∷ 1 ∷ 2 ∷ 3 ∷ 5 ∷ []) tt c.match2.keys2) s.of.w.pends)
+    goes_on s (step_waits s.known _ _ refl _ _ c.before.create-x.ensures (0 ∷ 1 ∷ 2 ∷ 3 ∷ 5 ∷ []) tt c.match2.keys2) s.of.w.pends)
     -- put, name, code, add, read: done
     (λ c κs.
     let s = stepping c.before.before in
-    step_gives s.known _ c.before.before.before.before.before.before.before.byte.ensures c.before.if2.false c.if3.true)
+    step_gives s.known _ c.before.before.before.before.before.before.before.byte-k.ensures c.before.if-k-eq-NEW.false c.if-k-lt-WRITE.true)
     (λ c. search rules)
     (λ c κs. let s = stepping c.before.before.before.before.before.before in round_small s.of.w _ _ s.known.r)
     (λ c.
@@ -144,17 +144,17 @@ schedule_spec =
     (λ c. let s = stepping c.before.before.before.before.before.before.before.before in round_falls s.of.w s.of.h)
     (λ c.
     let s = stepping c.before.before.before.before.before.before.before.before in
-    goes_on s (step_give s.known _ _ refl _ _ c.before.before.before.before.before.give.ensures _ _ _ c.before.before.before.x2.given.1 c.before.gets.ensures) (moves s _ _ c.before.gets.ensures.1 c.pend3.ensures))
+    goes_on s (step_give s.known _ _ refl _ _ c.before.before.before.before.before.give-x.ensures _ _ _ c.before.before.before.x-in-Give-1.given.1 c.before.gets-t.ensures) (moves s _ _ c.before.gets-t.ensures.1 c.pend-p-in-Give.ensures))
     -- blocked
     (λ c. let s = stepping c.before.before.before.before in let f = round_fits s.of.w s.of.h in search rules)
     (λ c. let s = stepping c.before.before.before.before in round_falls s.of.w s.of.h)
     (λ c.
     let s = stepping c.before.before.before.before in
-    goes_on s (step_waits s.known _ _ refl _ _ c.before.give.ensures (0 ∷ 2 ∷ 3 ∷ 4 ∷ 5 ∷ []) tt c.match3.keys2) s.of.w.pends)
+    goes_on s (step_waits s.known _ _ refl _ _ c.before.give-x.ensures (0 ∷ 2 ∷ 3 ∷ 4 ∷ 5 ∷ []) tt c.match3.keys2) s.of.w.pends)
     -- write, relabel: done
     (λ c κs.
     let s = stepping c.before.before.before in
-    step_changes s.known _ c.before.before.before.before.before.before.before.before.byte.ensures c.before.if3.false c.if4.true)
+    step_changes s.known _ c.before.before.before.before.before.before.before.before.byte-k.ensures c.before.if-k-lt-WRITE.false c.if-k-lt-LOWER.true)
     (λ c. search rules)
     (λ c κs. let s = stepping c.before.before.before.before.before.before.before in round_small s.of.w _ _ s.known.r)
     (λ c.
@@ -183,17 +183,17 @@ schedule_spec =
     (λ c. let s = stepping c.before.before.before.before.before.before.before.before.before in round_falls s.of.w s.of.h)
     (λ c.
     let s = stepping c.before.before.before.before.before.before.before.before.before in
-    goes_on s (step_store s.known _ _ refl _ _ c.before.before.before.before.before.change.ensures _ _ c.before.before.before.x3.given.1 c.before.moved.ensures) (moves s _ _ c.before.moved.ensures.1 c.pend4.ensures))
+    goes_on s (step_store s.known _ _ refl _ _ c.before.before.before.before.before.change-x.ensures _ _ c.before.before.before.x-in-Store-1.given.1 c.before.moved-t.ensures) (moves s _ _ c.before.moved-t.ensures.1 c.pend-p-in-Store.ensures))
     -- blocked
     (λ c. let s = stepping c.before.before.before.before.before in let f = round_fits s.of.w s.of.h in search rules)
     (λ c. let s = stepping c.before.before.before.before.before in round_falls s.of.w s.of.h)
     (λ c.
     let s = stepping c.before.before.before.before.before in
-    goes_on s (step_waits s.known _ _ refl _ _ c.before.change.ensures (0 ∷ 1 ∷ 2 ∷ 4 ∷ 5 ∷ []) tt c.match4.keys2) s.of.w.pends)
+    goes_on s (step_waits s.known _ _ refl _ _ c.before.change-x.ensures (0 ∷ 1 ∷ 2 ∷ 4 ∷ 5 ∷ []) tt c.match4.keys2) s.of.w.pends)
     -- lower: done
     (λ c κs.
     let s = stepping c.before.before.before.before in
-    step_lowers s.known _ c.before.before.before.before.before.before.before.before.before.byte.ensures c.if5.true)
+    step_lowers s.known _ c.before.before.before.before.before.before.before.before.before.byte-k.ensures c.if-k-eq-LOWER.true)
     (λ c. search rules)
     (λ c κs. let s = stepping c.before.before.before.before.before.before.before.before in round_small s.of.w _ _ s.known.r)
     (λ c.
@@ -220,17 +220,17 @@ schedule_spec =
     (λ c. let s = stepping c.before.before.before.before.before.before.before.before.before.before in round_falls s.of.w s.of.h)
     (λ c.
     let s = stepping c.before.before.before.before.before.before.before.before.before.before in
-    goes_on s (step_lower s.known _ _ refl _ _ c.before.before.before.before.before.lower.ensures _ _ _ c.before.before.before.x4.given.1 c.before.lowered.ensures) (moves s _ _ c.before.lowered.ensures.1 c.pend5.ensures))
+    goes_on s (step_lower s.known _ _ refl _ _ c.before.before.before.before.before.lower-x.ensures _ _ _ c.before.before.before.x-in-Lower-1.given.1 c.before.lowered-t.ensures) (moves s _ _ c.before.lowered-t.ensures.1 c.pend-p-in-Lower.ensures))
     -- blocked
     (λ c. let s = stepping c.before.before.before.before.before.before in let f = round_fits s.of.w s.of.h in search rules)
     (λ c. let s = stepping c.before.before.before.before.before.before in round_falls s.of.w s.of.h)
     (λ c.
     let s = stepping c.before.before.before.before.before.before in
-    goes_on s (step_waits s.known _ _ refl _ _ c.before.lower.ensures (0 ∷ 1 ∷ 3 ∷ 4 ∷ 5 ∷ []) tt c.match5.keys2) s.of.w.pends)
+    goes_on s (step_waits s.known _ _ refl _ _ c.before.lower-x.ensures (0 ∷ 1 ∷ 3 ∷ 4 ∷ 5 ∷ []) tt c.match5.keys2) s.of.w.pends)
     -- start, exec, choose: done
     (λ c κs.
     let s = stepping c.before.before.before.before in
-    step_launches s.known _ c.before.before.before.before.before.before.before.before.before.byte.ensures c.before.if4.false c.if5.false)
+    step_launches s.known _ c.before.before.before.before.before.before.before.before.before.byte-k.ensures c.before.if-k-lt-LOWER.false c.if-k-eq-LOWER.false)
     (λ c. search rules)
     (λ c κs. let s = stepping c.before.before.before.before.before.before.before.before in round_small s.of.w _ _ s.known.r)
     (λ c.
@@ -254,26 +254,26 @@ schedule_spec =
     (λ c κs. search rules)
     (λ c.
     let s = stepping c.before.before.before.before.before.before.before.before.before.before.before.before in
-    let f = step_free s.known _ _ refl _ _ c.before.before.before.before.before.before.before.launch.ensures _ _ _ c.before.before.before.before.before.x5.given.1 in
+    let f = step_free s.known _ _ refl _ _ c.before.before.before.before.before.before.before.launch-x.ensures _ _ _ c.before.before.before.before.before.x-in-Launch-1.given.1 in
     search rules)
     (λ c.
     let s = stepping c.before.before.before.before.before.before.before.before.before.before.before.before in
-    let f = step_free s.known _ _ refl _ _ c.before.before.before.before.before.before.before.launch.ensures _ _ _ c.before.before.before.before.before.x5.given.1 in
+    let f = step_free s.known _ _ refl _ _ c.before.before.before.before.before.before.before.launch-x.ensures _ _ _ c.before.before.before.before.before.x-in-Launch-1.given.1 in
     search rules)
     (λ c κs.
     let s = stepping c.before.before.before.before.before.before.before.before.before.before.before.before in
     round_short s.of.w)
     (λ c.
     let s = stepping c.before.before.before.before.before.before.before.before.before.before.before.before.before in
-    let f = step_free s.known _ _ refl _ _ c.before.before.before.before.before.before.before.before.launch.ensures _ _ _ c.before.before.before.before.before.before.x5.given.1 in
+    let f = step_free s.known _ _ refl _ _ c.before.before.before.before.before.before.before.before.launch-x.ensures _ _ _ c.before.before.before.before.before.before.x-in-Launch-1.given.1 in
     search rules)
     (λ c.
     let s = stepping c.before.before.before.before.before.before.before.before.before.before.before.before.before in
-    let f = step_free s.known _ _ refl _ _ c.before.before.before.before.before.before.before.before.launch.ensures _ _ _ c.before.before.before.before.before.before.x5.given.1 in
+    let f = step_free s.known _ _ refl _ _ c.before.before.before.before.before.before.before.before.launch-x.ensures _ _ _ c.before.before.before.before.before.before.x-in-Launch-1.given.1 in
     search rules)
     (λ c.
     let s = stepping c.before.before.before.before.before.before.before.before.before.before.before.before.before in
-    let f = step_free s.known _ _ refl _ _ c.before.before.before.before.before.before.before.before.launch.ensures _ _ _ c.before.before.before.before.before.before.x5.given.1 in
+    let f = step_free s.known _ _ refl _ _ c.before.before.before.before.before.before.before.before.launch-x.ensures _ _ _ c.before.before.before.before.before.before.x-in-Launch-1.given.1 in
     search rules)
     (λ c.
     let s = stepping c.before.before.before.before.before.before.before.before.before.before.before.before.before in
@@ -284,35 +284,35 @@ schedule_spec =
     round_falls s.of.w s.of.h)
     (λ c.
     let s = stepping c.before.before.before.before.before.before.before.before.before.before.before.before.before in
-    goes_on s (step_launch s.known _ _ refl _ _ c.before.before.before.before.before.before.before.before.launch.ensures _ _ _ _ c.before.before.before.before.before.before.x5.given.1 c.before.before.before.before.moved2.ensures _ _ c.before.before.start_of2.ensures c.before.fresh3.ensures) (launches s _ _ c.before.before.before.before.moved2.ensures.1 c.before.before.before.pend6.ensures _ _ _ c.before.fresh3.ensures.1 c.pend7.ensures (step_free s.known _ _ refl _ _ c.before.before.before.before.before.before.before.before.launch.ensures _ _ _ c.before.before.before.before.before.before.x5.given.1)))
+    goes_on s (step_launch s.known _ _ refl _ _ c.before.before.before.before.before.before.before.before.launch-x.ensures _ _ _ _ c.before.before.before.before.before.before.x-in-Launch-1.given.1 c.before.before.before.before.moved-t-in-Launch.ensures _ _ c.before.before.start_of-opens.ensures c.before.fresh-child.ensures) (launches s _ _ c.before.before.before.before.moved-t-in-Launch.ensures.1 c.before.before.before.pend-p-in-Launch.ensures _ _ _ c.before.fresh-child.ensures.1 c.pend-c.ensures (step_free s.known _ _ refl _ _ c.before.before.before.before.before.before.before.before.launch-x.ensures _ _ _ c.before.before.before.before.before.before.x-in-Launch-1.given.1)))
     -- blocked
     (λ c. let s = stepping c.before.before.before.before.before.before in let f = round_fits s.of.w s.of.h in search rules)
     (λ c. let s = stepping c.before.before.before.before.before.before in round_falls s.of.w s.of.h)
     (λ c.
     let s = stepping c.before.before.before.before.before.before in
-    goes_on s (step_waits s.known _ _ refl _ _ c.before.launch.ensures (0 ∷ 1 ∷ 2 ∷ 3 ∷ 4 ∷ []) tt c.match6.keys2) s.of.w.pends)
+    goes_on s (step_waits s.known _ _ refl _ _ c.before.launch-x.ensures (0 ∷ 1 ∷ 2 ∷ 3 ∷ 4 ∷ []) tt c.match6.keys2) s.of.w.pends)
     -- the tables are saved
-    (λ c κs. round_sized c.before.before.loop.invariant)
+    (λ c κs. round_sized c.before.before.loop-at.invariant)
     (λ c.
-    let f = round_begun c.before.before.before.before.before.loop.invariant c.before.before.before.before.loop-test.false in
+    let f = round_begun c.before.before.before.before.before.loop-at.invariant c.before.before.before.before.loop-at-test.false in
     jobs_start _ _ _ f.0 (search rules) f.1 f.2)
     (λ c. search rules)
     (λ c. search rules)
     (λ c κs.
-    let f = jobs_room _ _ _ _ c.before.before.before.loop2.invariant c.before.before.loop2-test.true in
-    (jobs_narrow _ _ _ _ c.before.before.before.loop2.invariant _ c.before.before.loop2-test.true, f.0, f.1))
+    let f = jobs_room _ _ _ _ c.before.before.before.loop-y.invariant c.before.before.loop-y-test.true in
+    (jobs_narrow _ _ _ _ c.before.before.before.loop-y.invariant _ c.before.before.loop-y-test.true, f.0, f.1))
     (λ c. search rules)
     (λ c. search rules)
-    (λ c. jobs_on _ _ _ _ c.before.before.before.before.before.before.loop2.invariant _ _ c.before.before.before.before.before.loop2-test.true c.before.before.save_job.ensures (search rules))
+    (λ c. jobs_on _ _ _ _ c.before.before.before.before.before.before.loop-y.invariant _ _ c.before.before.before.before.before.loop-y-test.true c.before.before.save_job.ensures (search rules))
     (λ c. search rules)
     (λ c κs. search rules)
     (λ c. search rules)
     (λ c. search rules)
     (λ c. search rules)
     (λ c.
-    let w = c.before.before.before.before.before.before.before.before.before.before.before.loop.invariant in
-    let saved = jobs_end _ _ _ _ c.before.before.before.before.before.loop2.invariant _ c.before.before.before.before.loop2-test.false c.before.before.clear_from.ensures in
-    let label = first_launched c.before.before.before.before.before.before.before.before.before.before.before.before.before.fresh2.result _ c.before.before.before.before.before.before.before.before.before.before.before.before.before.fresh2.ensures.0 in (
-      round_end w c.before.before.before.before.before.before.before.before.before.before.loop-test.false _ label _ _ c.before.before.before.before.before.before.before.before.save_cells.ensures saved,
+    let w = c.before.before.before.before.before.before.before.before.before.before.before.loop-at.invariant in
+    let saved = jobs_end _ _ _ _ c.before.before.before.before.before.loop-y.invariant _ c.before.before.before.before.loop-y-test.false c.before.before.clear_from.ensures in
+    let label = first_launched c.before.before.before.before.before.before.before.before.before.before.before.before.before.fresh-first.result _ c.before.before.before.before.before.before.before.before.before.before.before.before.before.fresh-first.ensures.0 in (
+      round_end w c.before.before.before.before.before.before.before.before.before.before.loop-at-test.false _ label _ _ c.before.before.before.before.before.before.before.before.save_cells.ensures saved,
       round_bounds w,
     )))

@@ -12,29 +12,29 @@ use Rattle.rotation.specs.declared.JobFound.TheVariants.{At}
 use Rattle.scheduler.proofs.Scheduling.{Rounding, SomeJob, SomeTurn, round_next, round_here, round_inside, round_ends, round_stands}
 use Rattle.scheduler.proofs.schedule.Tie as tie
 
-abbrev pub InvLoop : tie.invariant-loop
+abbrev pub InvLoop : tie.invariant-loop-at
 InvLoop book shapes offsets starts cells jobs answers₀ turns held₀ begun₀ start pending₀ n₀ m₀ from₀ at₀ most₀ answers held begun pending n m from at most =
     Rounding book (first_label begun₀) shapes offsets starts cells jobs answers₀ turns answers held n begun m pending from at most
 
-abbrev pub μ_loop : tie.decreases-loop
+abbrev pub μ_loop : tie.decreases-loop-at
 μ_loop book shapes offsets starts cells jobs answers₀ turns held₀ begun₀ start pending₀ n₀ m₀ from₀ at₀ most₀ answers held begun pending n m from at most =
     most - at
 
-abbrev pub InvLoop2 : tie.invariant-loop2
+abbrev pub InvLoop2 : tie.invariant-loop-y
 InvLoop2 book shapes offsets starts cells jobs₀ answers turns begun start n m from at most y₀ jobs y = JobsIn begun m jobs y
 
-abbrev pub μ_loop2 : tie.decreases-loop2
+abbrev pub μ_loop2 : tie.decreases-loop-y
 μ_loop2 book shapes offsets starts cells jobs₀ answers turns begun start n m from at most y₀ jobs y = m - y
 
 -- the next job was found at once, or by the scan
 abbrev pub Joined : Type 0
-Joined = tie.Joined1 InvLoop μ_loop InvLoop2 μ_loop2
+Joined = tie.Joined-pending-begin-eq0 InvLoop μ_loop InvLoop2 μ_loop2
 
 abbrev pub chosen : Joined → SomeJob
 chosen c =
-    let w = c.before.before.before.loop.invariant in
-    let h = c.before.before.loop-test.true in
-    let eb = c.before.first_place.ensures in
+    let w = c.before.before.before.loop-at.invariant in
+    let h = c.before.before.loop-at-test.true in
+    let eb = c.before.first_place-begin.ensures in
     record {
       b = _;
       launch = _;
@@ -54,10 +54,10 @@ chosen c =
       from = _;
       at = _;
       most = _;
-      i = c.if1.i;
+      i = c.if-pending-begin-eq0.i;
       w = w;
       h = h;
-      next = elim c.if1.branch [
+      next = elim c.if-pending-begin-eq0.branch [
         | inl x ↦ round_next w _ eb h _ x.1.ensures _ x.3.given.1 ∙ ap At (sym x.5)
         | inr x ↦ round_here w _ eb _ x.0.false ∙ ap At (sym x.1)
       ];
@@ -65,7 +65,7 @@ chosen c =
 
 -- what is known where a step's cell was looked up
 abbrev pub Looked : Type 0
-Looked = tie.After-cell InvLoop μ_loop InvLoop2 μ_loop2
+Looked = tie.After-cell-1 InvLoop μ_loop InvLoop2 μ_loop2
 
 abbrev pub stepping : Looked → SomeTurn
 stepping p =
@@ -84,9 +84,9 @@ stepping p =
         starts_are = s.w.setting.drawn.starts_are;
         r = round_inside s.w _ s.next;
         ez = refl;
-        eu = round_ends s.w _ s.next _ _ turn.offset_of.ensures _;
-        un = round_stands s.w _ s.next _ _ turn.offset_of.ensures;
-        et = p.before.before.before.target_of.ensures;
-        eq = p.before.clamp.ensures.0;
+        eu = round_ends s.w _ s.next _ _ turn.offset_of-past.ensures _;
+        un = round_stands s.w _ s.next _ _ turn.offset_of-past.ensures;
+        et = p.before.before.before.target_of-u.ensures;
+        eq = p.before.clamp-q.ensures.0;
       };
     }
