@@ -5,4 +5,4 @@ use Rattle.scheduler.proofs.pend.Statement.{statement}
 use Rattle.scheduler.proofs.pend.Tie as tie
 
 pub pend_spec : {M : Type 1} → statement M
-pend_spec = tie.close (tie.spec (λ c κs. search rules) (λ c. past_fits _ _ _ c.before.before.requires c.step_end-past.ensures) (λ c. search rules))
+pend_spec = tie.close (tie.spec (λ c κs. search rules) (λ c. past_fits _ _ _ c.requires c.step_end-past.ensures) (λ c. search rules))

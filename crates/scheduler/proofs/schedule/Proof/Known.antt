@@ -3,13 +3,13 @@
 --     Joined, chosen                            where the next job was found
 --     Looked, stepping                          where the cell of its step was looked up
 -- Assumes nothing.
-use mathlib.Core.Logic.{inl, inr}
 use mathlib.Core.Path.{refl, sym, ap, ◌∙◌}
 use Prim.Native.Nat.{◌-◌}
 use Rattle.tables.proofs.Saved.{JobsIn}
 use Rattle.interpreter.proofs.Playing.{first_label}
 use Rattle.rotation.specs.declared.JobFound.TheVariants.{At}
 use Rattle.scheduler.proofs.Scheduling.{Rounding, SomeJob, SomeTurn, round_next, round_here, round_inside, round_ends, round_stands}
+use Rattle.scheduler.proofs.schedule.Lts.{then-pending-begin-eq0+in-At, else-pending-begin-eq0}
 use Rattle.scheduler.proofs.schedule.Tie as tie
 
 abbrev pub InvLoop : tie.invariant-loop-at
@@ -32,9 +32,9 @@ Joined = tie.Joined-pending-begin-eq0 InvLoop μ_loop InvLoop2 μ_loop2
 
 abbrev pub chosen : Joined → SomeJob
 chosen c =
-    let w = c.before.before.before.loop-at.invariant in
-    let h = c.before.before.loop-at-test.true in
-    let eb = c.before.first_place-begin.ensures in
+    let w = c.loop-at.invariant in
+    let h = c.loop-at-test.true in
+    let eb = c.first_place-begin.ensures in
     record {
       b = _;
       launch = _;
@@ -58,8 +58,8 @@ chosen c =
       w = w;
       h = h;
       next = elim c.if-pending-begin-eq0.branch [
-        | inl x ↦ round_next w _ eb h _ x.1.ensures _ x.3.given.1 ∙ ap At (sym x.5)
-        | inr x ↦ round_here w _ eb _ x.0.false ∙ ap At (sym x.1)
+        | then-pending-begin-eq0+in-At x ↦ round_next w _ eb h _ x.next_of-found.ensures _ x.in-At.is ∙ ap At (sym x.i-is)
+        | else-pending-begin-eq0 x ↦ round_here w _ eb _ x.if-pending-begin-eq0.false ∙ ap At (sym x.i-is)
       ];
     }
 
@@ -69,8 +69,8 @@ Looked = tie.After-cell-1 InvLoop μ_loop InvLoop2 μ_loop2
 
 abbrev pub stepping : Looked → SomeTurn
 stepping p =
-    let turn = p.before.before.before.before.before.before.before in
-    let s = chosen turn.before.before in
+    let turn = p in
+    let s = chosen p.before.before.before.before.before.before.before.before.before.before in
     record {
       of = s;
       d = _;
@@ -86,7 +86,7 @@ stepping p =
         ez = refl;
         eu = round_ends s.w _ s.next _ _ turn.offset_of-past.ensures _;
         un = round_stands s.w _ s.next _ _ turn.offset_of-past.ensures;
-        et = p.before.before.before.target_of-u.ensures;
-        eq = p.before.clamp-q.ensures.0;
+        et = p.target_of-u.ensures;
+        eq = p.clamp-q.ensures.0;
       };
     }
