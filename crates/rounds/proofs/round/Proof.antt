@@ -12,23 +12,23 @@ round_spec =
     (λ c κs. search rules) (λ c. search rules) (λ c κs. search rules) (λ c κs. search rules) (λ c κs. search rules)
     (λ c. search rules) (λ c. search rules) (λ c κs. search rules)
     (λ c κs.
-    let f = c.before.before.before.before.before.before in
-    round_roundable _ _ _ _ _ _ _ f.before.before.before.before.before.read.ensures _ f.before.before.refuse_launch.ensures _ f.before.refuse.ensures _
-    f.refuse_turns.ensures c.before.before.before.before.enum_told.given.1)
+    let f = c in
+    round_roundable _ _ _ _ _ _ _ f.read-r.ensures _ f.refuse_launch-launched.ensures _ f.refuse-earlier.ensures _
+    f.refuse_turns-refusal.ensures c.in-Passed.is)
     -- Refusal::Refused { number, place }
     (λ c.
-    let f = c.before.before.before in (
-      round_refused _ _ _ _ _ _ _ f.before.before.before.before.before.read.ensures _ f.before.before.refuse_launch.ensures _ f.before.refuse.ensures _
-          f.refuse_turns.ensures _ _ c.before.refusal.given.1,
+    let f = c in (
+      round_refused _ _ _ _ _ _ _ f.read-r.ensures _ f.refuse_launch-launched.ensures _ f.refuse-earlier.ensures _
+          f.refuse_turns-refusal.ensures _ _ c.refusal-1.given.1,
       (omega arith, omega arith, omega arith),
     ))
     (λ c. search rules) (λ c. search rules) (λ c. search rules)
     -- Refusal::Passed
     (λ c.
-    let finished = c.before.before.before.before.before.before in
-    let label = finished.before.before.before.before in
-    let f = label.before.before.before in (
-      round_passed _ _ _ _ _ _ _ f.before.before.before.before.before.read.ensures _ f.before.before.refuse_launch.ensures _ f.before.refuse.ensures _
-          f.refuse_turns.ensures _ label.launch_label.ensures _ label.before.enum_told.given.1 finished.finish.ensures.0,
+    let finished = c in
+    let label = finished in
+    let f = label in (
+      round_passed _ _ _ _ _ _ _ f.read-r.ensures _ f.refuse_launch-launched.ensures _ f.refuse-earlier.ensures _
+          f.refuse_turns-refusal.ensures _ label.launch_label-label.ensures _ label.enum_told-1.given.1 finished.finish.ensures.0,
       finished.finish.ensures.1,
     )))
