@@ -12,23 +12,18 @@ round_spec =
     (λ c κs. search rules) (λ c. search rules) (λ c κs. search rules) (λ c κs. search rules) (λ c κs. search rules)
     (λ c. search rules) (λ c. search rules) (λ c κs. search rules)
     (λ c κs.
-    let f = c in
-    round_roundable _ _ _ _ _ _ _ f.read-r.ensures _ f.refuse_launch-launched.ensures _ f.refuse-earlier.ensures _
-    f.refuse_turns-refusal.ensures c.in-Passed.is)
+    round_roundable _ _ _ _ _ _ _ c.read-r.ensures _ c.refuse_launch-launched.ensures _ c.refuse-earlier.ensures _
+    c.refuse_turns-refusal.ensures c.in-Passed.is)
     -- Refusal::Refused { number, place }
-    (λ c.
-    let f = c in (
-      round_refused _ _ _ _ _ _ _ f.read-r.ensures _ f.refuse_launch-launched.ensures _ f.refuse-earlier.ensures _
-          f.refuse_turns-refusal.ensures _ _ c.refusal-1.given.1,
+    (λ c. (
+      round_refused _ _ _ _ _ _ _ c.read-r.ensures _ c.refuse_launch-launched.ensures _ c.refuse-earlier.ensures _
+          c.refuse_turns-refusal.ensures _ _ c.in-Refused.is,
       (omega arith, omega arith, omega arith),
     ))
     (λ c. search rules) (λ c. search rules) (λ c. search rules)
     -- Refusal::Passed
-    (λ c.
-    let finished = c in
-    let label = finished in
-    let f = label in (
-      round_passed _ _ _ _ _ _ _ f.read-r.ensures _ f.refuse_launch-launched.ensures _ f.refuse-earlier.ensures _
-          f.refuse_turns-refusal.ensures _ label.launch_label-label.ensures _ label.enum_told-1.given.1 finished.finish.ensures.0,
-      finished.finish.ensures.1,
+    (λ c. (
+      round_passed _ _ _ _ _ _ _ c.read-r.ensures _ c.refuse_launch-launched.ensures _ c.refuse-earlier.ensures _
+          c.refuse_turns-refusal.ensures _ c.launch_label-label.ensures _ c.in-Passed.is c.finish.ensures.0,
+      c.finish.ensures.1,
     )))
