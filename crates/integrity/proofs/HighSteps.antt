@@ -3,7 +3,7 @@
 use mathlib.Core.Path.{◌≡◌, refl, ap}
 use mathlib.Core.Bool.{Bool, true, false, not}
 use mathlib.Core.Option.{Option, none, some}
-use mathlib.Core.List.{map}
+use mathlib.Core.List.{[], ◌∷◌, ◌++◌, map}
 use Prim.Native.Nat.{ℕ, max, ◌<◌, ◌≤◌}
 use native.Mathlib.Omega.{arith}
 use lib.Dec.{leb}
@@ -106,10 +106,11 @@ module _ (K : Book) (size : ℕ) (s : State Label) (v : Invariant K s) (ok : Gro
       (record { job = gets sources j r (CellName (length s.cells)) j.history; effect = new_act sources size s j.label j.history i (register sources j a) })
   unfolding new_act
   new_ok r i a hi =
+      let made : Cell Label = record { shape = i; label = j.label; content = acted sources j.history (register sources j a) } in
       need_ok K (λ e. given_effect K (λ f.
-      own_ok K s j t m r (N.CellOf i) _ (create _) (create_ok (new_cell i a (both_left _ _ e) hi (both_right _ _ e)))
+      own_ok K s j t m r (N.CellOf i) (CellName (length s.cells)) (create made) (create_ok (new_cell i a (both_left _ _ e) hi (both_right _ _ e)))
       (λ n q. let z : i ≡ n = cc in let c : is_cell_shape K.c (shape_of K) i ≡ true = both_left _ _ e in rw z at c)
-      (named_has K _ _ _ (created K s.cells _))))
+      (named_has K (s.cells ++ (made ∷ [])) (length s.cells) _ (created K s.cells made))))
 
   pub read_ok : (r w : ℕ) → StepOk K s.cells j (R.read_rule K.c (shape_of K) t r w) (read_step sources s j r w)
   unfolding read_step

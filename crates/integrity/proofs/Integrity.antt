@@ -10,7 +10,7 @@ use Rattle.machine.specs.declared.Event.{Event}
 use Rattle.machine.specs.Histories.{History, lists}
 use Rattle.machine.specs.States.{State}
 use Rattle.machine.specs.Events.{outcome_of, fresh_state, state_after}
-use Rattle.integrity.specs.Integrity.{◌isIn◌, Integrity, Throughout, passed}
+use Rattle.integrity.specs.Integrity.{◌is_in◌, Integrity, Throughout, passed}
 use Rattle.integrity.proofs.Bridge.{accepted}
 use Rattle.integrity.proofs.Sentences.{kept}
 

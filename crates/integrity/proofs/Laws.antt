@@ -22,11 +22,12 @@ use Rattle.machine.specs.Histories.{hands, lists, append}
 use Rattle.machine.specs.Acts.{blocked, fresh_job, exec_label, start_act, exec_act}
 use Rattle.machine.specs.Steps.{chosen, register, turn_of}
 use Rattle.machine.specs.Events.{outcome_of}
-use Rattle.integrity.specs.Integrity.{◌isIn◌}
+use Rattle.integrity.specs.Integrity.{◌is_in◌}
 use Rattle.integrity.specs.Laws.{ExecHistory, AboveC, chooses, ChooseStarts}
 
 -- a member of a part
 in_front : {A : Type 0} (x : A) (xs ys : List A) → x is_in xs → x is_in (xs ++ ys)
+in_front x [] ys m = absurd (Memᴰ.not-nil m)
 in_front x (y ∷ xs) ys (Memᴰ.head e) = Memᴰ.head e
 in_front x (y ∷ xs) ys (Memᴰ.tail m) = Memᴰ.tail (in_front x xs ys m)
 

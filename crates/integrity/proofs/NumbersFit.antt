@@ -22,7 +22,7 @@ use Rattle.book.proofs.Decoded.{number_is}
 use Rattle.machine.proofs.Named.{step_number, Numbers, BookHas, EventHas, TracedNamed, CellNamed, JobNamed, number_named, state_after_has}
 use Rattle.events.specs.Bytes.{event_at, events_from, events_in, offsets_from}
 use Rattle.interpreter.specs.Run.{final_state}
-use Rattle.integrity.specs.Integrity.{◌isIn◌}
+use Rattle.integrity.specs.Integrity.{◌is_in◌}
 use Rattle.integrity.specs.Tables.{Bytes, NumbersFit}
 
 abbrev Fits : ℕ → Type 0

@@ -12,7 +12,7 @@ use lib.ListN.{length, get_or, get_or-append}
 use lib.Seq.{get_or-append-add}
 use Rattle.machine.specs.Records.{ValueRecord, JobRecord}
 use Rattle.tables.specs.Bytes.{packed, value_bytes, job_bytes}
-use Rattle.integrity.specs.Integrity.{◌isIn◌}
+use Rattle.integrity.specs.Integrity.{◌is_in◌}
 
 module _ {A : Type 0} (bytes : A → List ℕ) (w : ℕ) where
   pub record Entry (l : List A) (t : List ℕ) (i : ℕ) : Type 0 where

@@ -21,7 +21,7 @@ use Rattle.machine.specs.Events.{stated_trust, first_bound, fresh_state, state_a
 use Rattle.machine.specs.Images.{cell_image, job_image, state_image}
 use Rattle.machine.specs.Records.{cell_record, job_record}
 use Rattle.machine.proofs.Sources.{source_law}
-use Rattle.integrity.specs.Integrity.{◌isIn◌, Kept}
+use Rattle.integrity.specs.Integrity.{◌is_in◌, Kept}
 use Rattle.integrity.proofs.Trees.{cell, tree_cell}
 use Rattle.integrity.proofs.Numbers.{lower_number, normal_high}
 use Rattle.integrity.proofs.Invariant.{shape_of, tree_of, Good, CellOk, JobOk, Invariant}

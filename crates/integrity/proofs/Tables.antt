@@ -31,7 +31,7 @@ use Rattle.events.specs.Bytes.{events_in}
 use Rattle.tables.specs.Bytes.{cell_bytes, job_bytes, cell_table, job_table}
 use Rattle.interpreter.specs.Run.{or_next, unlaunched, refusal_by, unrunnable, played, final_state, ran_of}
 use Rattle.interpreter.proofs.Ran.{refusal_is}
-use Rattle.integrity.specs.Integrity.{◌isIn◌, Recorded}
+use Rattle.integrity.specs.Integrity.{◌is_in◌, Recorded}
 use Rattle.integrity.specs.Tables.{TablesKept, Tables}
 use Rattle.integrity.proofs.Bridge.{passed}
 use Rattle.integrity.proofs.Integrity.{integrity}

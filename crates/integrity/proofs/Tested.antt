@@ -13,7 +13,7 @@ use Rattle.book.proofs.Tests.{clash}
 use Rattle.machine.specs.Histories.{History, hands}
 use Rattle.machine.specs.States.{Cell, Job, State}
 use Rattle.machine.specs.Events.{stated_trust}
-use Rattle.integrity.specs.Integrity.{◌isIn◌, Sentences}
+use Rattle.integrity.specs.Integrity.{◌is_in◌, Sentences}
 use Rattle.integrity.specs.Weakened.{every}
 use Rattle.integrity.proofs.Booleans.{both_true}
 

@@ -14,8 +14,8 @@ use Rattle.machine.specs.Events.{stated_trust, first_bound, outcome_of, fresh_st
 use Rattle.machine.specs.Records.{CellRecord, JobRecord, cell_records, job_records}
 
 -- "All cells and jobs in use are meant, finished jobs too." "A hand is a label that stands in a history".
-infix 20 ◌isIn◌
-abbrev pub ◌isIn◌ : {A : Type 0} → A → List A → Type 0
+infix 20 ◌is_in◌
+abbrev pub ◌is_in◌ : {A : Type 0} → A → List A → Type 0
 x is_in xs = Memᴰ x xs
 
 -- The three sentences: no cell of trust above C holds a value with a label below that trust in its history; no such cell's label is

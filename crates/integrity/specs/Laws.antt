@@ -18,7 +18,7 @@ use Rattle.machine.specs.States.{Cell, Job, State}
 use Rattle.machine.specs.Acts.{blocked, launch, fresh_job, exec_act}
 use Rattle.machine.specs.Steps.{Turn, register, turn, stay, moved, turn_of}
 use Rattle.machine.specs.Events.{no_such, unchanged, outcome_of}
-use Rattle.integrity.specs.Integrity.{◌isIn◌}
+use Rattle.integrity.specs.Integrity.{◌is_in◌}
 
 -- "a job at the lower of the two labels, history: caller's, code's, new label": of a caller of label l and history h, and a cell c that holds block b
 pub record Launched (l : Label) (h : History) (c : Cell History) (b : ℕ) (j : Job History) : Type 0 where

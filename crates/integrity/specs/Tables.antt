@@ -17,7 +17,7 @@ use Rattle.machine.specs.Events.{block_of}
 use Rattle.machine.specs.Records.{ValueRecord, CellRecord, JobRecord, cell_records, job_records}
 use Rattle.tables.specs.Bytes.{cell_length, job_length}
 use Rattle.interpreter.specs.Run.{Run, ran, final_state}
-use Rattle.integrity.specs.Integrity.{◌isIn◌}
+use Rattle.integrity.specs.Integrity.{◌is_in◌}
 
 -- "A cell record holds shape, trust, label and value", 9 bytes; its last is the value's source. Of cell i:
 abbrev pub trust_in : Run → ℕ → ℕ
