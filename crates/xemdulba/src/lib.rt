@@ -167,8 +167,8 @@ pub extern "C" fn xemdulba_run(
     jobs: &mut [u8],
     answers: &mut [u8],
 ) -> Ran
-    ensures* { λ r. ⌜ ◌≡◌ {A = Call} (record { result = r; cells = cells.new; jobs = jobs.new; answered = answers.new })
-        (called (ran book.now (launch_of launch) list.now cells.old jobs.old answers.old)) ⌝ }
+    ensures { ◌≡◌ {A = Call} (record { result = result; cells = cells.new; jobs = jobs.new; answered = answers.new })
+        (called (ran book.now (launch_of launch) list.now cells.old jobs.old answers.old)) }
 {
     let given = launch_of(launch);
     let run = running::run(book, given, list, cells, jobs, answers);
@@ -218,8 +218,8 @@ pub extern "C" fn xemdulba_round(
     answers: &mut [u8],
     turns: u32,
 ) -> Rounded
-    ensures* { λ r. ⌜ ◌≡◌ {A = RoundCall} (record { result = r; cells = cells.new; jobs = jobs.new; answered = answers.new })
-        (round_called (rounded book.now (launch_of launch) cells.old jobs.old answers.old turns)) ⌝ }
+    ensures { ◌≡◌ {A = RoundCall} (record { result = result; cells = cells.new; jobs = jobs.new; answered = answers.new })
+        (round_called (rounded book.now (launch_of launch) cells.old jobs.old answers.old turns)) }
 {
     let given = launch_of(launch);
     let round = rounds::round(book, given, cells, jobs, answers, turns as usize);
@@ -270,8 +270,8 @@ pub extern "C" fn xemdulba_write(
     steps: &[u8],
     out: &mut [u8],
 ) -> Written
-    ensures* { λ r. ⌜ ◌≡◌ {A = WriteCall} (record { result = r; out = out.new })
-        (wrote (written (tables_in (label_of c) shapes.now cells.now blocks.now steps.now) out.old)) ⌝ }
+    ensures { ◌≡◌ {A = WriteCall} (record { result = result; out = out.new })
+        (wrote (written (tables_in (label_of c) shapes.now cells.now blocks.now steps.now) out.old)) }
 {
     let label = label_of(c);
     let w = writing::write(label, shapes, cells, blocks, steps, out);
