@@ -97,7 +97,7 @@ module _ {b : List ℕ} {c launch : Label} {shapes offsets starts list room_cell
         (record {
           state = state_of state state k x;
           lands = (act_done holds e dc cell sight x ex _
-              (act_some b (shape_in shapes) act.w.setting.drawn.shapes_are (length starts) (blocks_count b starts act.w.setting.drawn.starts_are) state e
+              (act_some b (shape_in shapes) act.w.setting.shapes_are (length starts) (blocks_count b starts act.w.setting.starts_are) state e
               (act_here list o e act.here act.ee) n (cells_in_use holds) f (known act.w act.h p act.ep act.here e act.ee f act.ef) act.t)
               ∙ ap (λ k. afterwards state state k x) (sym act.ek)
               ∙ ap (λ a. answering a (state_of state state k x)) (sym ea));
@@ -150,4 +150,4 @@ module _ {b : List ℕ} {c launch : Label} {shapes offsets starts list room_cell
           acted cells n (set jobs m child) (m + 1)
           (rw d
           (holds_launch holds z l s child acting_free ch.0
-          (placed_fresh b act.w.setting.drawn.readable starts act.w.setting.drawn.starts_are child z ch.3 ch.2 (ch.1 ∙ st))))
+          (placed_fresh b act.w.setting.readable starts act.w.setting.starts_are child z ch.3 ch.2 (ch.1 ∙ st))))

@@ -1,4 +1,5 @@
 -- The tables at the start hold the machine's fresh state.
+--     ready_drawn      what the loop asks for, without what is lent
 --     open_listed      the cells that are to be opened
 --     opened           the tables hold the machine's state
 -- Assumes nothing.
@@ -24,7 +25,7 @@ use Rattle.acts.specs.declared.StoredCell.{StoredCell}
 use Rattle.acts.specs.declared.StoredJob.{StoredJob}
 use Rattle.acts.specs.Views.{cell_of, job_of}
 use Rattle.tables.specs.Opening.{start_in, opened_cells}
-use Rattle.interpreter.specs.Loop.{Placed, Holds, opening, Drawn}
+use Rattle.interpreter.specs.Loop.{Placed, Holds, opening, Drawn, Ready}
 use Rattle.interpreter.proofs.Starts.{placed_fresh}
 
 -- a value is told by its kind and its number
@@ -39,6 +40,10 @@ declared_are : (b os : List ℕ) → map cell_of (opened_cells b os) ≡ map (de
 unfolding opened_cells
 declared_are b [] = refl
 declared_are b (o ∷ os) = rw (value_back (declared_at b o).value, declared_are b os) refl
+
+pub ready_drawn : {b : List ℕ} {c : Label} {shapes offsets starts list cells jobs answers : List ℕ}
+    → Ready b c shapes offsets starts list cells jobs answers → Drawn b shapes offsets starts
+ready_drawn y = record { readable = y.readable; shapes_are = y.shapes_are; offsets_are = y.offsets_are; starts_are = y.starts_are }
 
 module _ (b shapes offsets starts : List ℕ) (y : Drawn b shapes offsets starts) where
   few : length offsets ≤ 32

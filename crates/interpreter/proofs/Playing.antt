@@ -40,12 +40,12 @@ use Rattle.tables.specs.Bytes.{saved_cells, saved_jobs}
 use Rattle.tables.specs.Asked.{NarrowJobs}
 use Rattle.tables.specs.Opening.{start_in, opened_cells}
 use Rattle.interpreter.specs.Loop.{Holds, Ready}
-use Rattle.interpreter.specs.Run.{Run, ran_of}
+use Rattle.interpreter.specs.Run.{Run, played, ran_of}
 use Rattle.interpreter.proofs.Lands.{cells_in_use, step_past, step_none}
 use Rattle.interpreter.proofs.Events.{step_here, act_here, act_none}
 use Rattle.interpreter.proofs.Going.{Going, Turned, going_start, answer_fits, going_turn, going_end}
 use Rattle.interpreter.proofs.Narrows.{played_narrow}
-use Rattle.interpreter.proofs.Opened.{opened}
+use Rattle.interpreter.proofs.Opened.{ready_drawn, opened}
 use Rattle.interpreter.proofs.Finishing.{finish_is}
 use Rattle.interpreter.proofs.Stepping.{Stepping}
 
@@ -81,7 +81,7 @@ pub playing_start : (b : List ℕ) (c : Label) (shapes offsets starts list room_
     → Playing b c (first_label (set (replicate 64 none) 0 j)) shapes offsets starts list room_cells room_jobs before before cells (length offsets)
     (set (replicate 64 none) 0 j) 1 0 0
 playing_start b c shapes offsets starts list room_cells room_jobs before y l cells none j start long e es f =
-    let h = opened b shapes offsets starts y.drawn l cells none j start long e es f.0 f.1 f.2 f.3 in
+    let h = opened b shapes offsets starts (ready_drawn y) l cells none j start long e es f.0 f.1 f.2 f.3 in
     at_label (first_launched j l f.0)
     (record {
       setting = y;
@@ -112,7 +112,7 @@ module _ {b : List ℕ} {c launch : Label} {shapes offsets starts list room_cell
   pub playing_small : (i : ℕ) (d : StoredJob) → i < m → (get_or jobs i d).position < 65535
   playing_small i d h =
       let p = w.going.holds.placed i d h in
-      let r = readable b w.setting.drawn.readable in
+      let r = readable b w.setting.readable in
       omega (arith, p.behind, p.inside, r.short)
 
   pub playing_sized : (n ≤ 64) × (length room_cells ≡ 576)
@@ -121,15 +121,15 @@ module _ {b : List ℕ} {c launch : Label} {shapes offsets starts list room_cell
   pub playing_begun : length list ≤ o → (m ≤ 64) × (length room_jobs ≡ 3328) × NarrowJobs jobs m
   playing_begun h =
       let p = going_end w.going (events_end list o h) in
-      (w.going.holds.jobs_fit, w.setting.lent.jobs_sized, played_narrow b launch _ before now cells n jobs m w.setting.drawn.readable p)
+      (w.going.holds.jobs_fit, w.setting.lent.jobs_sized, played_narrow b launch _ before now cells n jobs m w.setting.readable p)
 
   pub playing_end : (l : Label) → launch ≡ l → (x y : List ℕ) → length list ≤ o → x ≡ saved_cells shapes (take n cells) → y ≡ saved_jobs (take m jobs)
       → ◌≡◌ {A = Run} (record { refusal = Passed; cell_count = n; job_count = m; cells = x; jobs = y; answered = now })
       (ran_of Passed b l list room_cells room_jobs before)
-  unfolding ran_of
+  unfolding ran_of played
   playing_end l el x y h ex ey =
       rw (← el)
-      (finish_is b launch shapes (events_in list) before w.setting.drawn.shapes_are cells n jobs m now
+      (finish_is b launch shapes (events_in list) before w.setting.shapes_are cells n jobs m now
       (going_end w.going (events_end list o h)) x y ex ey)
 
   pub playing_fit : (n ≤ 64) × (m ≤ 64)
@@ -206,7 +206,7 @@ module _ {b : List ℕ} {c launch : Label} {shapes offsets starts list room_cell
             (record {
               state = w.going.state;
               lands =
-                  act_none b (shape_in shapes) w.setting.drawn.shapes_are (length starts) (blocks_count b starts w.setting.drawn.starts_are) w.going.state e
+                  act_none b (shape_in shapes) w.setting.shapes_are (length starts) (blocks_count b starts w.setting.starts_are) w.going.state e
                   (act_here list o e here ee) n (cells_in_use w.going.holds) f known t;
               holds = w.going.holds;
             })

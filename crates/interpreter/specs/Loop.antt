@@ -58,8 +58,11 @@ pub record Drawn (b shapes offsets starts : List ℕ) : Type 0 where
   pub offsets_are : offsets ≡ cells_of b
   pub starts_are : starts ≡ map start_at (blocks_of b)
 
--- with its C, and what is lent to the run
+-- a readable book, the parts of its outline that the loop is lent, and what is lent to the run
 pub record Ready (b : List ℕ) (c : Label) (shapes offsets starts list cells jobs answers : List ℕ) : Type 0 where
-  pub drawn : Drawn b shapes offsets starts
+  pub readable : unreadable b ≡ Passed
   pub c_is : c ≡ (parse b).c
+  pub shapes_are : (i : ℕ) → shape_in shapes i ≡ get_or (parse b).shapes i no_shape
+  pub offsets_are : offsets ≡ cells_of b
+  pub starts_are : starts ≡ map start_at (blocks_of b)
   pub lent : Lent list cells jobs answers

@@ -1,8 +1,8 @@
 -- The run of a book, for every list of bytes: its refusals, and what the lent memory holds afterwards. 01, "The machine"; 02, Three.
 --     unrunnable      refusals 1 to 6, 9 to 11 and 14
 --     Run, run_by      the result, and the three lent lists after the call
---     played          what they are after a list of events
 --     ran             what they are
+--     played          what they are after these events
 -- Assumes nothing.
 use Rattle.std.specs.Prelude.{ℕ, List, ◌++◌, ltb, eqb, length, drop}
 use Rattle.labels.specs.declared.Label.{Label}
@@ -67,11 +67,40 @@ abbrev pub run_by : RunResult → List ℕ → List ℕ → List ℕ → Run
 run_by r cells jobs answered =
     record { refusal = r.refusal; cell_count = r.cells; job_count = r.jobs; cells = cells; jobs = jobs; answered = answered }
 
--- the machine's state after these events, job 0 at the label l: "A run begins fresh"
+-- the machine's state after the events, job 0 at the label l: "A run begins fresh"
+abbrev pub final_state : List ℕ → Label → List ℕ → State History
+final_state book l list = state_after lists table_size (parse book) (fresh_state lists (parse book) l) (events_in list)
+
+-- the machine's answers, and "answer bytes beyond the events keep their contents"
+abbrev pub final_answers : List ℕ → Label → List ℕ → List ℕ → List ℕ
+final_answers book l list room =
+    answers lists table_size (parse book) (fresh_state lists (parse book) l) (events_in list) ++ drop (length (events_in list)) room
+
+-- "A refusal .. leaves all lent memory untouched."
+unfoldable pub ran_of : Refusal → List ℕ → Label → List ℕ → List ℕ → List ℕ → List ℕ → Run
+ran_of (Refused n o) book l list cells jobs room =
+    record { refusal = Refused n o; cell_count = 0; job_count = 0; cells = cells; jobs = jobs; answered = room }
+ran_of Passed book l list cells jobs room =
+    let s = final_state book l list in
+    record {
+      refusal = Passed;
+      cell_count = length s.cells;
+      job_count = length s.jobs;
+      cells = cell_table (cell_records (parse book) s);
+      jobs = job_table (job_records s);
+      answered = final_answers book l list room;
+    }
+
+-- of a book, a launch label or none, an event list, and what the cell table, the job table and the answer buffer held before
+abbrev pub ran : List ℕ → Launch → List ℕ → List ℕ → List ℕ → List ℕ → Run
+ran book launch list cells jobs room =
+    ran_of (unrunnable book launch list (length cells) (length jobs) (length room)) book (launch_label (parse book) launch) list cells jobs room
+
+-- the same where the events come from no list of bytes: the machine's state after these events
 abbrev pub state_by : List ℕ → Label → List Event → State History
 state_by book l es = state_after lists table_size (parse book) (fresh_state lists (parse book) l) es
 
--- the machine's answers, and "answer bytes beyond the events keep their contents"
+-- the machine's answers to them, and what the answer buffer holds beyond
 abbrev pub answers_by : List ℕ → Label → List Event → List ℕ → List ℕ
 answers_by book l es room = answers lists table_size (parse book) (fresh_state lists (parse book) l) es ++ drop (length es) room
 
@@ -87,18 +116,3 @@ played book l es room =
       jobs = job_table (job_records s);
       answered = answers_by book l es room;
     }
-
--- after the events of a list of bytes
-abbrev pub final_state : List ℕ → Label → List ℕ → State History
-final_state book l list = state_by book l (events_in list)
-
--- "A refusal .. leaves all lent memory untouched."
-unfoldable pub ran_of : Refusal → List ℕ → Label → List ℕ → List ℕ → List ℕ → List ℕ → Run
-ran_of (Refused n o) book l list cells jobs room =
-    record { refusal = Refused n o; cell_count = 0; job_count = 0; cells = cells; jobs = jobs; answered = room }
-ran_of Passed book l list cells jobs room = played book l (events_in list) room
-
--- of a book, a launch label or none, an event list, and what the cell table, the job table and the answer buffer held before
-abbrev pub ran : List ℕ → Launch → List ℕ → List ℕ → List ℕ → List ℕ → Run
-ran book launch list cells jobs room =
-    ran_of (unrunnable book launch list (length cells) (length jobs) (length room)) book (launch_label (parse book) launch) list cells jobs room

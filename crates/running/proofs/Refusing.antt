@@ -151,7 +151,16 @@ module _ (b : List ℕ) (t : Outline) (list cells jobs before : List ℕ) (y : R
 
   pub lent_ready : Ready b t.c t.shapes (take (t.counts.cells - 0) (drop 0 t.offsets)) (take (t.counts.blocks - 0) (drop 0 t.starts))
       list cells jobs before
-  lent_ready = record { drawn = outline_drawn b t y.readable y.outlined; c_is = c_is b t y.outlined; lent = y.lent }
+  lent_ready =
+      let d = outline_drawn b t y.readable y.outlined in
+      record {
+        readable = d.readable;
+        c_is = c_is b t y.outlined;
+        shapes_are = d.shapes_are;
+        offsets_are = d.offsets_are;
+        starts_are = d.starts_are;
+        lent = y.lent;
+      }
 
 -- r is what reading gave, s what the scan gave
 module _ (b : List ℕ) (launch : Launch) (list cells jobs before : List ℕ) (r : Reading) (er : r ≡ reading b) (s : Scanned) (es : s ≡ scanned list) where

@@ -5,7 +5,7 @@ use mathlib.Core.Path.{refl}
 use mathlib.Core.List.{[], ◌∷◌}
 use borrow.Author.Rules.{rules}
 use Rattle.tables.proofs.Saved.{jobs_start, jobs_narrow, jobs_room, jobs_on, jobs_end}
-use Rattle.interpreter.proofs.Opened.{open_listed}
+use Rattle.interpreter.proofs.Opened.{ready_drawn, open_listed}
 use Rattle.interpreter.proofs.Playing.{first_launched, entry_fits, playing_start, playing_small, playing_sized, playing_begun, playing_end, playing_fit, playing_entry}
 use Rattle.interpreter.proofs.Playing.{playing_few, playing_off, playing_fits, playing_falls, playing_step_falls, playing_past, playing_over, playing_none, goes_on}
 use Rattle.interpreter.proofs.Stepping.{step_stands, step_creates, step_gives, step_changes, step_lowers, step_launches, step_waits, step_room}
@@ -24,7 +24,7 @@ play_spec =
     InvLoop2
     μ_loop2
     -- the tables at the start
-    (λ c κs. open_listed _ _ _ _ c.requires.drawn)
+    (λ c κs. open_listed _ _ _ _ (ready_drawn c.requires))
     (λ c κs. search rules) (λ c κs. search rules) (λ c κs. search rules) (λ c. search rules)
     (λ c.
     playing_start _ _ _ _ _ _ _ _ _ c.requires _ _ _ _ _
