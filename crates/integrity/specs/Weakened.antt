@@ -16,7 +16,7 @@ use Rattle.book.specs.declared.Declared.{Declared}
 use Rattle.book.specs.declared.Step.{Step}
 use Rattle.book.specs.declared.Step.TheVariants.{Put, Name, Code, Add, New, Read, Write, Relabel, Lower, Start, Exec, Choose}
 use Rattle.book.specs.declared.Refusal.TheVariants.{Passed}
-use Rattle.book.specs.Control.{if◌then◌else◌, both, either, on_some}
+use Rattle.book.specs.Control.{if◌then◌else◌, both, either}
 use Rattle.book.specs.Book.{Book, Block, parse}
 use Rattle.book.specs.Refusals.{unreadable}
 use Rattle.typing.specs.declared.Known.{Known}

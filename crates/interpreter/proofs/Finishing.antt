@@ -11,7 +11,6 @@ use Rattle.book.specs.declared.Refusal.TheVariants.{Passed}
 use Rattle.book.specs.Book.{parse}
 use Rattle.book.specs.Refusals.{no_shape}
 use Rattle.book.specs.Outline.{shape_in}
-use Rattle.book.proofs.Outlines.{cells_are}
 use Rattle.machine.specs.declared.Event.{Event}
 use Rattle.machine.specs.Histories.{lists, sources, source}
 use Rattle.machine.specs.States.{State}

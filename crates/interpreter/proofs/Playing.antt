@@ -39,7 +39,7 @@ use Rattle.outsiders.specs.Outside.{such}
 use Rattle.tables.specs.Bytes.{saved_cells, saved_jobs}
 use Rattle.tables.specs.Asked.{NarrowJobs}
 use Rattle.tables.specs.Opening.{start_in, opened_cells}
-use Rattle.interpreter.specs.Loop.{Holds, Ready}
+use Rattle.interpreter.specs.Loop.{Ready}
 use Rattle.interpreter.specs.Run.{Run, played, ran_of}
 use Rattle.interpreter.proofs.Lands.{cells_in_use, step_past, step_none}
 use Rattle.interpreter.proofs.Events.{step_here, act_here, act_none}

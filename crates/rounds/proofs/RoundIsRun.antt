@@ -2,26 +2,23 @@
 --     round_is_run, lendable
 -- Assumes nothing.
 use mathlib.Core.Path.{◌≡◌, refl, sym, ap, ◌∙◌}
-use mathlib.Core.List.{List, map}
-use Prim.Native.Nat.{ℕ, ◌*◌, ◌≤◌}
+use mathlib.Core.List.{List}
+use Prim.Native.Nat.{ℕ, ◌≤◌}
 use native.Mathlib.Omega.{arith}
 use lib.ListN.{length, length-map}
 use Rattle.labels.specs.declared.Label.{Label}
 use Rattle.book.specs.declared.Refusal.{Refusal}
 use Rattle.book.specs.declared.Refusal.TheVariants.{Passed, Refused}
 use Rattle.book.specs.Book.{parse}
-use Rattle.book.specs.Refusals.{unreadable}
-use Rattle.machine.specs.declared.Launch.{Launch}
-use Rattle.machine.specs.declared.Event.{Event}
 use Rattle.machine.specs.declared.Event.TheVariants.{StepOf}
 use Rattle.machine.specs.Histories.{lists}
-use Rattle.machine.specs.Events.{table_size, first_bound, launch_label, fresh_state}
-use Rattle.events.specs.Bytes.{events_in, unplayable}
-use Rattle.interpreter.specs.Run.{or_next, memory_refusal, unlaunched, refusal_by, unrunnable, played, ran_of}
-use Rattle.running.proofs.Refusing.{Passes, refuse_none}
+use Rattle.machine.specs.Events.{table_size, launch_label, fresh_state}
+use Rattle.events.specs.Bytes.{events_in}
+use Rattle.interpreter.specs.Run.{or_next, refusal_by, unrunnable, played, ran_of}
+use Rattle.running.proofs.Refusing.{refuse_none}
 use Rattle.rotation.proofs.Rounds.{chosen_few}
 use Rattle.scheduler.specs.Rounds.{unroundable, jobs_chosen, rounded_of}
-use Rattle.rounds.specs.RoundIsRun.{step_list, list_chosen, IsRun, RoundIsRun, Lendable}
+use Rattle.rounds.specs.RoundIsRun.{step_list, RoundIsRun, Lendable}
 use Rattle.rounds.proofs.Refusing.{allowed}
 use Rattle.rounds.proofs.StepLists.{steps_long, steps_are, steps_play, chosen_bytes}
 

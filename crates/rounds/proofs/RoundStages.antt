@@ -1,7 +1,7 @@
 -- Which rounds are refused, and sample rounds of book A by computing them.
 --     round_stages, round_calls
 -- Assumes nothing.
-use mathlib.Core.Path.{◌≡◌, refl, sym, ap, ◌∙◌}
+use mathlib.Core.Path.{◌≡◌, refl}
 use mathlib.Core.List.{List}
 use Prim.Native.Nat.{ℕ, ◌<◌, ◌≤◌}
 use mathlib.Core.Bool.{Bool, true, false}
@@ -22,7 +22,7 @@ use Rattle.machine.specs.declared.Launch.{Launch}
 use Rattle.machine.specs.Control.{given, on_plain, on_cell}
 use Rattle.machine.specs.Acts.{write_act, start_act}
 use Rattle.machine.specs.Steps.{turn_of}
-use Rattle.machine.specs.Events.{first_bound, launched_at, launch_label, landed, turn_landed, outcome_of, state_after, answers}
+use Rattle.machine.specs.Events.{first_bound, launched_at, landed, turn_landed, outcome_of, state_after, answers}
 use Rattle.tables.specs.Bytes.{cell_table, job_table}
 use Rattle.interpreter.specs.Run.{or_next, untabled, unanswered, unlaunched, refusal_by, played}
 use Rattle.rotation.specs.Round.{first_place, scan, has_step, next_job, chosen_jobs}

@@ -3,10 +3,8 @@
 --     RoundStages       each stage, in its order
 --     RoundCalls        rounds of book A, in bytes
 -- proofs/RoundStages.antt proves them. Assumes nothing.
-use Rattle.std.specs.Prelude.{ℕ, ◌<◌, ◌≤◌, ◌≡◌, List, [], ◌∷◌, map, length, take, drop, replicate}
-use Rattle.labels.specs.declared.Label.{Label}
+use Rattle.std.specs.Prelude.{ℕ, ◌<◌, ◌≤◌, ◌≡◌, List, [], ◌∷◌, map, length, take, replicate}
 use Rattle.labels.specs.Labels.{label}
-use Rattle.book.specs.declared.Refusal.{Refusal}
 use Rattle.book.specs.declared.Refusal.TheVariants.{Passed, Refused}
 use Rattle.book.specs.Book.{parse}
 use Rattle.book.specs.Refusals.{unreadable}
@@ -16,10 +14,9 @@ use Rattle.machine.specs.declared.Launch.TheVariants.{Default, Given}
 use Rattle.machine.specs.declared.Event.TheVariants.{StepOf}
 use Rattle.machine.specs.Histories.{lists}
 use Rattle.machine.specs.Events.{first_bound, launch_label}
-use Rattle.tables.specs.Bytes.{cell_table_length, job_table_length}
 use Rattle.interpreter.specs.Run.{unlaunched, played}
 use Rattle.rotation.specs.Round.{round_of}
-use Rattle.scheduler.specs.Rounds.{Round, unroundable, rounded}
+use Rattle.scheduler.specs.Rounds.{Round, rounded}
 
 -- "A refusal .. leaves all lent memory untouched."
 abbrev pub refused_round : ℕ → ℕ → List ℕ → List ℕ → List ℕ → Round

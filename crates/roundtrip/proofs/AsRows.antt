@@ -15,7 +15,7 @@ use Rattle.book.specs.Control.{either}
 use Rattle.book.specs.Kinds.{span, group, limits}
 use Rattle.book.specs.Spans.{Bytes}
 use Rattle.book.specs.Records.{byte_at, number_at, number_bytes, cut}
-use Rattle.book.specs.Book.{shape_at, declared_at, block_at, step_at, value_of, kind_of, number_of}
+use Rattle.book.specs.Book.{shape_at, declared_at, block_at, step_at, value_of, kind_of}
 use Rattle.book.specs.Refusals.{above, out_of_range}
 use Rattle.book.proofs.Decoded.{number_is}
 use Rattle.book.proofs.Tests.{either_left, either_right}

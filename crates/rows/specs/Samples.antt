@@ -9,7 +9,7 @@ use Rattle.book.specs.Book.{parse}
 use Rattle.book.specs.Samples.{book_a, last_write}
 use Rattle.rows.specs.Rows.{BookTables, tables_in}
 use Rattle.rows.specs.Parsed.{tables_of}
-use Rattle.rows.specs.Write.{unwritable, WriteResult, written}
+use Rattle.rows.specs.Write.{unwritable, written}
 
 abbrev pub bytes_of_a : List ℕ
 bytes_of_a = book_a 0x09 0x09 0x0C last_write

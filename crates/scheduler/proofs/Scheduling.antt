@@ -20,7 +20,7 @@ use Rattle.book.specs.declared.Refusal.TheVariants.{Passed}
 use Rattle.book.specs.Book.{parse}
 use Rattle.book.specs.Stretch.{step_end}
 use Rattle.book.proofs.Readable.{readable}
-use Rattle.machine.specs.Histories.{sources, lists}
+use Rattle.machine.specs.Histories.{sources}
 use Rattle.machine.specs.declared.Event.{Event}
 use Rattle.machine.specs.declared.Event.TheVariants.{StepOf}
 use Rattle.machine.specs.States.{State}

@@ -15,7 +15,6 @@ use Rattle.labels.specs.Labels.{lower, reaches}
 use Rattle.book.specs.declared.Value.TheVariants.{Plain}
 use Rattle.book.specs.declared.Step.{Step}
 use Rattle.book.specs.declared.Step.TheVariants.{Put, Name, Code, Add, New, Read, Write, Relabel, Start, Exec, Choose}
-use Rattle.book.specs.declared.Step.TheVariants as Step
 use Rattle.book.specs.Book.{value_of}
 use Rattle.book.specs.Control.{both, on_some}
 use Rattle.machine.specs.Control.{given, on_plain}

@@ -11,7 +11,6 @@ use Rattle.labels.specs.declared.Label.{Label}
 use Rattle.labels.specs.Labels.{label}
 use Rattle.book.specs.declared.Step.{Step}
 use Rattle.book.specs.declared.Step.TheVariants.{Put, Name, Code, Add, New, Read, Write, Relabel, Start, Exec, Choose}
-use Rattle.book.specs.declared.Step.TheVariants as Step
 use Rattle.book.specs.Records.{byte_at, number_at}
 use Rattle.book.specs.Book.{step_at}
 use Rattle.book.proofs.Decoded.{is_put, is_name, is_code, is_add, is_new, is_read, is_write, is_relabel, is_lower, is_start, is_exec, choose_past}

@@ -4,7 +4,7 @@
 --     block_lays               a block, and then its steps
 -- Assumes nothing.
 use mathlib.Core.Path.{◌≡◌, refl, sym, ap, ◌∙◌}
-use mathlib.Core.List.{List, [], ◌∷◌, ◌++◌, map, append_assoc, append-nil}
+use mathlib.Core.List.{List, [], ◌∷◌, ◌++◌, map, append_assoc}
 use Prim.Native.Nat.{ℕ, zero, suc, ◌+◌, ◌-◌, ◌*◌, ◌/◌, ◌≤◌, ◌<◌, min}
 use native.Mathlib.Omega.{arith}
 use lib.ListN.{length, take, drop}
@@ -12,7 +12,7 @@ use Rattle.book.specs.Records.{byte_at, number_at}
 use Rattle.records.specs.Copies.{put_at}
 use Rattle.writing.specs.declared.entries.Entry.{Entry}
 use Rattle.writing.specs.declared.laying.Pen.{Pen}
-use Rattle.rows.specs.Rows.{Row, BlockRow, StepRow, row_of, block_row, step_row, block_row_in, step_row_in, rows_from, block_rows}
+use Rattle.rows.specs.Rows.{Row, StepRow, row_of, block_row, step_row, block_row_in, step_row_in, rows_from, block_rows}
 use Rattle.writing.specs.Asked.{Enters, penned, Lays, steps_laid, blocks_laid}
 use Rattle.writing.proofs.Drafts.{lays_none, lays_row, lays_then, lays_over}
 

@@ -13,7 +13,6 @@ use native.Mathlib.Omega.{arith}
 use lib.ListN.{length, take, drop, get_or, set, length-set, length-append, length-drop}
 use native.Mathlib.Numerals.{add-one, add-two, add-three}
 use lib.Seq.{sets-eq, take_at, drop-append-add, drop-drop, length-take-le, take-append-add, take-append-le}
-use Rattle.labels.proofs.Impossible.{impossible}
 use Rattle.book.specs.declared.Fault.{Fault}
 use Rattle.book.specs.declared.Fault.TheVariants.{Nowhere, At}
 use Rattle.book.proofs.Spans.{packed_join}
@@ -21,7 +20,7 @@ use Rattle.records.specs.Copies.{put_at}
 use Rattle.writing.specs.declared.entries.Entry.{Entry}
 use Rattle.writing.specs.declared.laying.Pen.{Pen}
 use Rattle.rows.specs.Rows.{Row, shape_row, cell_row, step_row, shape_row_in, cell_row_in, step_row_in, rows_from, packed_rows}
-use Rattle.rows.specs.Write.{first_row, unknown_fault, spare_fault}
+use Rattle.rows.specs.Write.{first_row}
 use Rattle.writing.specs.Asked.{Enters, noted, penned, Laid, Lays, shapes_laid, cells_laid, steps_laid}
 
 pub note_kept : (f : Fault) (o : ℕ) (bad : Bool) (at : ℕ) → f ≡ At o → At o ≡ noted f bad at

@@ -4,17 +4,17 @@
 -- Assumes nothing.
 use mathlib.Core.Path.{◌≡◌, refl, sym, ap, ◌∙◌}
 use mathlib.Core.Bool.{Bool, true, false, not}
-use mathlib.Core.List.{List, [], ◌∷◌, ◌++◌}
+use mathlib.Core.List.{List, [], ◌∷◌}
 use Prim.Native.Nat.{ℕ, ◌+◌, ◌<◌, ◌≤◌}
 use native.Mathlib.Omega.{arith}
-use lib.Dec.{eqb, ltb}
-use lib.ListN.{length, take, drop}
+use lib.Dec.{eqb}
+use lib.ListN.{length}
 use borrow.Author.Tests.{eq-eqb, ne_eqb, lt-ltb, le-ltb}
 use Rattle.labels.specs.declared.Label.{Label}
 use Rattle.book.specs.Control.{both, either}
 use Rattle.book.specs.Kinds.{group, span}
 use Rattle.book.specs.Spans.{Bytes}
-use Rattle.book.specs.Records.{byte_at, number_at, number_bytes}
+use Rattle.book.specs.Records.{byte_at, number_bytes}
 use Rattle.book.proofs.Digits.{digits}
 use Rattle.writing.specs.declared.entries.Entry.{Entry}
 use Rattle.rows.specs.Rows.{ShapeRow, StepRow, row_of, c_row, shape_row, cell_row, step_row, shape_row_in, cell_row_in, step_row_in, some_nonzero}

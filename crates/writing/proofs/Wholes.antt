@@ -6,17 +6,16 @@
 -- Assumes nothing.
 use mathlib.Core.Path.{◌≡◌, refl, sym, ap, ◌∙◌}
 use mathlib.Core.Bool.{Bool}
-use mathlib.Core.List.{List, [], ◌∷◌, ◌++◌, map, append-nil}
-use Prim.Native.Nat.{ℕ, zero, suc, ◌+◌, ◌-◌, ◌*◌, ◌/◌, ◌≤◌, ◌<◌}
+use mathlib.Core.List.{List, [], ◌∷◌, ◌++◌, append-nil}
+use Prim.Native.Nat.{ℕ, zero, suc, ◌+◌, ◌*◌, ◌/◌, ◌≤◌, ◌<◌}
 use native.Mathlib.Omega.{arith}
 use lib.Dec.{eqb}
-use lib.ListN.{length, take, drop, replicate, length-append, length-replicate}
+use lib.ListN.{length, take, length-append}
 use lib.Seq.{length-take-le}
 use Rattle.labels.specs.declared.Label.{Label}
-use Rattle.book.specs.declared.Fault.TheVariants.{Nowhere}
 use Rattle.book.proofs.Spans.{packed_join}
 use Rattle.records.specs.Copies.{put_at}
-use Rattle.rows.specs.Rows.{BookTables, Row, c_row, shape_row, cell_row, shape_row_in, cell_row_in, step_row_in, step_rows_in, block_rows_in, rows_from, block_rows, rows, packed_rows, bytes_of, tables_in, total}
+use Rattle.rows.specs.Rows.{BookTables, Row, c_row, shape_row, cell_row, shape_row_in, cell_row_in, step_row_in, step_rows_in, block_rows_in, rows_from, rows, packed_rows, bytes_of, tables_in, total}
 use Rattle.rows.specs.Write.{first_row}
 use Rattle.writing.specs.declared.entries.Entry.{Entry}
 use Rattle.writing.specs.declared.laying.Pen.{Pen}

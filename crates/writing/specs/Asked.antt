@@ -9,8 +9,7 @@
 --     judged, unsound               refusals 3 to 6, and 2 to 6
 --     roomed                        with 13
 -- Assumes nothing.
-use Rattle.std.specs.Prelude.{ℕ, ◌+◌, ◌-◌, ◌*◌, ◌/◌, ◌≤◌, min, ◌≡◌, Bool, true, false, not, List, [], ◌∷◌, ◌++◌, eqb, ltb, length, take, drop}
-use Rattle.labels.specs.declared.Label.{Label}
+use Rattle.std.specs.Prelude.{ℕ, ◌+◌, ◌*◌, ◌≤◌, min, ◌≡◌, Bool, true, false, not, List, ◌++◌, eqb, ltb, length, take}
 use Rattle.book.specs.declared.Fault.{Fault}
 use Rattle.book.specs.declared.Fault.TheVariants.{Nowhere, At}
 use Rattle.book.specs.declared.Refusal.{Refusal}

@@ -26,7 +26,7 @@ use Rattle.book.proofs.Groups.{is_block}
 use Rattle.book.proofs.Sweep.{Cleared, cleared}
 use Rattle.book.proofs.Readable.{pass_whole, readable}
 use Rattle.book.proofs.Parsed.{sound}
-use Rattle.machine.specs.declared.Launch.TheVariants.{Default, Given}
+use Rattle.machine.specs.declared.Launch.TheVariants.{Given}
 use Rattle.machine.specs.Events.{no_block, first_bound}
 use Rattle.interpreter.specs.Run.{unlaunched}
 use Rattle.xemdulba.specs.Calls.{label_of, launch_of}

@@ -1,5 +1,4 @@
 -- `fields_end` meets its contract. Assumes nothing.
-use borrow.Author.Rules.{rules}
 use Rattle.listing.proofs.Told.{ends}
 use Rattle.listing.proofs.fields_end.Statement.{statement}
 use Rattle.listing.proofs.fields_end.Tie as tie

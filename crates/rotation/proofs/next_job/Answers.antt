@@ -1,5 +1,5 @@
 -- `next_job` meets its contract: two loops, of the jobs ahead of the place and of those behind it. Assumes nothing.
-use mathlib.Core.Path.{◌≡◌, refl, sym, ap, ◌∙◌}
+use mathlib.Core.Path.{◌≡◌, sym, ap, ◌∙◌}
 use Prim.Native.Nat.{ℕ, zero, suc, ◌+◌, ◌-◌, ◌<◌, ◌≤◌}
 use native.Mathlib.Omega.{arith}
 use mathlib.Core.Bool.{Bool, true, false}
@@ -51,9 +51,10 @@ returns-then-jobs-at-gt0 c =
     hit_ahead (is_pending c.args.jobs.now) _ _ c.args.from _ c.loop-at-test.true c.loop-at.invariant.1 (lt-ltb 0 _ c.if-jobs-at-gt0.true)
 
 pub loop-at-preserved : goal.loop-at-preserved
-loop-at-preserved c =
-    (omega arith,
-    miss_ahead (is_pending c.args.jobs.now) _ _ c.args.from _ c.loop-at-test.true c.loop-at.invariant.1 (le-ltb 0 _ c.if-jobs-at-gt0.false))
+loop-at-preserved c = (
+  omega arith,
+  miss_ahead (is_pending c.args.jobs.now) _ _ c.args.from _ c.loop-at-test.true c.loop-at.invariant.1 (le-ltb 0 _ c.if-jobs-at-gt0.false),
+)
 
 pub loop-at-2-init : goal.loop-at-2-init
 loop-at-2-init c = (omega arith, past_ahead (is_pending c.args.jobs.now) _ _ c.args.from _ c.loop-at-test.false c.loop-at.invariant.1)
@@ -63,10 +64,11 @@ returns-then-jobs-at-gt0-2 c =
     hit_behind (is_pending c.args.jobs.now) c.args.count _ c.args.from _ c.loop-at-2-test.true c.loop-at-2.invariant.1 (lt-ltb 0 _ c.if-jobs-at-gt0-2.true)
 
 pub loop-at-2-preserved : goal.loop-at-2-preserved
-loop-at-2-preserved c =
-    (omega arith,
-    miss_behind (is_pending c.args.jobs.now) c.args.count _ c.args.from _ c.loop-at-2-test.true c.requires.0 c.loop-at-2.invariant.1
-    (le-ltb 0 _ c.if-jobs-at-gt0-2.false))
+loop-at-2-preserved c = (
+  omega arith,
+  miss_behind (is_pending c.args.jobs.now) c.args.count _ c.args.from _ c.loop-at-2-test.true c.requires.0 c.loop-at-2.invariant.1
+      (le-ltb 0 _ c.if-jobs-at-gt0-2.false),
+)
 
 pub returns : goal.returns
 returns c = past_behind (is_pending c.args.jobs.now) c.args.count _ c.args.from _ c.loop-at-2-test.false c.loop-at-2.invariant.1

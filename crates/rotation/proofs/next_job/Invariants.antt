@@ -1,5 +1,5 @@
 -- What is sought from the next place on is what was sought: past the places ahead of the first, and then past those behind it.
-use Prim.Native.Nat.{ℕ, ◌+◌, ◌-◌, ◌≤◌}
+use Prim.Native.Nat.{◌+◌, ◌-◌, ◌≤◌}
 use mathlib.Core.Path.{◌≡◌}
 use Rattle.rotation.specs.Round.{first_place, scan}
 use Rattle.rotation.specs.Scans.{is_pending}

@@ -1,5 +1,4 @@
 -- `shape_row` meets its contract. Assumes nothing.
-use borrow.Author.Rules.{rules}
 use Rattle.rows.proofs.Told.{told_shapes}
 use Rattle.rows.proofs.shape_row.Tie as tie
 use Rattle.rows.proofs.shape_row.Statement.{statement}

@@ -1,6 +1,5 @@
 -- `job_bytes` meets its contract. Assumes nothing.
 use mathlib.Core.Path.{◌≡◌, refl}
-use Prim.Native.Nat.{ℕ}
 use lib.ListN.{length}
 use borrow.Author.Rules.{rules}
 use Rattle.tables.proofs.Saved.{registers_start, registers_on, registers_end}

@@ -1,5 +1,4 @@
 -- `earlier_of` meets its contract. Assumes nothing.
-use borrow.Author.Rules.{rules}
 use Rattle.writing.proofs.Judged.{earliers}
 use Rattle.writing.proofs.earlier_of.Tie as tie
 use Rattle.writing.proofs.earlier_of.Statement.{statement}

@@ -19,12 +19,13 @@ pub returns-in-At : goal.returns-in-At
 returns-in-At c = search rounds
 
 pub loop-i-preserved : goal.loop-i-preserved
-loop-i-preserved c =
-    (omega arith,
-    search laids,
-    search laids,
-    round_good _ _ _ _ c.requires.1 _ c.loop-i-test.true _ _ c.offset_of-start.ensures c.offset_of-length.ensures _ _ _ c.loop-i.invariant.3
-    c.check_block.ensures c.in_default.is)
+loop-i-preserved c = (
+  omega arith,
+  search laids,
+  search laids,
+  round_good _ _ _ _ c.requires.1 _ c.loop-i-test.true _ _ c.offset_of-start.ensures c.offset_of-length.ensures _ _ _ c.loop-i.invariant.3
+      c.check_block.ensures c.in_default.is,
+)
 
 pub returns : goal.returns
 returns c = search rounds

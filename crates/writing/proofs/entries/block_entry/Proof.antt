@@ -1,5 +1,4 @@
 -- `entries::block_entry` meets its contract. Assumes nothing.
-use borrow.Author.Rules.{rules}
 use Rattle.writing.proofs.Entered.{entered}
 use Rattle.writing.proofs.entries.block_entry.Tie as tie
 use Rattle.writing.proofs.entries.block_entry.Statement.{statement}

@@ -1,5 +1,4 @@
 -- `entries::is_spare` meets its contract. Assumes nothing.
-use borrow.Author.Rules.{rules}
 use Rattle.writing.proofs.Entered.{spares}
 use Rattle.writing.proofs.entries.is_spare.Tie as tie
 use Rattle.writing.proofs.entries.is_spare.Statement.{statement}

@@ -1,5 +1,4 @@
 -- `entries::some_nonzero` meets its contract. Assumes nothing.
-use borrow.Author.Rules.{rules}
 use Rattle.writing.proofs.Entered.{nonzeros}
 use Rattle.writing.proofs.entries.some_nonzero.Tie as tie
 use Rattle.writing.proofs.entries.some_nonzero.Statement.{statement}
