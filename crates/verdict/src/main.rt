@@ -1,23 +1,16 @@
-// Reads a book on standard input and prints its verdict. Where the input cannot be read it says so on standard error and prints nothing. One
-// byte more than the limit is enough to refuse a longer book.
+// Reads a book on standard input and prints its verdict. Where the input cannot be read, standard error has the reason, and standard output
+// nothing. One byte more than the limit is enough to refuse a longer book.
 #![tactic(auto)]
 
 mod words;
 
-use libc::STDIN_FILENO;
+use std::io;
+use std::io::Read;
 
-// The last read did not fail: one more does not.
-fn is_readable() -> bool {
-    let mut more = [0u8; 1];
-    libc::read(STDIN_FILENO, &mut more) >= 0
-}
+const MOST: u64 = 32769;
 
-fn main() {
-    let mut space = [0u8; 32769];
-    let n = io::read_full(STDIN_FILENO, &mut space);
-    if !is_readable() {
-        os::fail(b"standard input");
-        return;
-    }
-    words::answer(checking::check(&space[..n]));
+fn main(rt: HostRuntime) -> io::Result<()> {
+    let mut book = Vec::new(rt.alloc());
+    rt.stdin().take(MOST).read_to_end(&mut book)?;
+    words::answer(&rt, checking::check(&book))
 }
