@@ -1,0 +1,5 @@
+use Rattle.integrity.specs.Laws as stated
+use Rattle.integrity.proofs.Laws as proved
+
+pub theorem : stated.ChooseStarts
+theorem = proved.choose_starts

@@ -1,0 +1,5 @@
+use Rattle.integrity.specs.EachNeeded as stated
+use Rattle.integrity.proofs.EachNeeded as proved
+
+pub theorem : stated.EachNeeded
+theorem = proved.each_needed

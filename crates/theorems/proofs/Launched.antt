@@ -1,0 +1,5 @@
+use Rattle.running.specs.Launches as stated
+use Rattle.running.proofs.Launched as proved
+
+pub theorem : stated.Launched
+theorem = proved.launched

@@ -1,0 +1,5 @@
+use Rattle.typing.specs.Samples as stated
+use Rattle.typing.proofs.Joint as proved
+
+pub theorem : stated.Samples
+theorem = proved.samples
