@@ -1,5 +1,5 @@
 /* Xemdulba: checks a control job book before it runs, runs it on a list of events or in a fair round, tells its records one by one, and
- * writes a book from tables. Link libxemdulba.a: `rt staticlib xemdulba` proves it and writes target/staticlib/libxemdulba.a.
+ * writes a book from tables. Link libxemdulba.a: `cli/archive` proves it and writes target/staticlib/libxemdulba.a.
  *
  * Every call returns on every input and answers what the proved definitions say. xemdulba_run and xemdulba_round write to their two
  * tables and their answers alone, and xemdulba_write to its output buffer alone; xemdulba_check, xemdulba_block, xemdulba_record and

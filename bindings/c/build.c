@@ -2,7 +2,7 @@
  * and then shows what the writer says of tables at fault.
  * Exit status: 0 it is written and accepted, 1 refused, 2 it cannot be printed. bindings/expected/build has what it prints.
  *
- * From the repository's folder, once `rt staticlib xemdulba` has written the library:
+ * From the repository's folder, once `cli/archive` has written the library:
  *   cc -std=c99 -Iinclude bindings/c/build.c target/staticlib/libxemdulba.a -o target/build
  */
 #include "xemdulba.h"

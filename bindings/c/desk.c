@@ -1,7 +1,7 @@
 /* desk BOOK EVENTS: checks a book and, where it is accepted, runs it on a list of events, with job 0 at the bound of block 0.
  * Exit status: 0 it ran, 1 refused, 2 no answer, or it cannot be written.
  *
- * From the repository's folder, once `rt staticlib xemdulba` has written the library:
+ * From the repository's folder, once `cli/archive` has written the library:
  *   cc -std=c99 -Iinclude bindings/c/desk.c target/staticlib/libxemdulba.a -o target/desk
  */
 #include "xemdulba.h"

@@ -1,8 +1,8 @@
 //! Finds the verified library, links it, and hands on the identity of the kit that proved it.
 //!
 //! The library is `libxemdulba.a` in the folder that XEMDULBA_LIB_DIR names; else in the source
-//! folder's `target/staticlib`, where `rt staticlib xemdulba` writes it; else where pkg-config
-//! says. The identity stands in `libxemdulba.kit` beside it.
+//! folder's `target/staticlib`, where `cli/archive` writes it; else where pkg-config says. The
+//! identity stands in `libxemdulba.kit` beside it.
 
 use std::path::{Path, PathBuf};
 use std::process::{exit, Command};
@@ -66,8 +66,8 @@ fn find() -> Result<Found, String> {
     }
     pkg_config().ok_or_else(|| {
         format!(
-            "there is no {ARCHIVE}: set XEMDULBA_LIB_DIR to its folder, or run `rt staticlib \
-             xemdulba` in the source folder, or install it where pkg-config looks"
+            "there is no {ARCHIVE}: set XEMDULBA_LIB_DIR to its folder, or run `cli/archive` in \
+             the source folder, or install it where pkg-config looks"
         )
     })
 }

@@ -1,7 +1,7 @@
 """Builds the package: links the proved archive as a shared library, and writes a wheel with it (PEP 517).
 
 The archive is libxemdulba.a in the folder that XEMDULBA_LIB_DIR names; else in the source folder's target/staticlib, where
-`rt staticlib xemdulba` writes it; else where pkg-config says. libxemdulba.kit beside it has the identity of the kit that proved it, and
+`cli/archive` writes it; else where pkg-config says. libxemdulba.kit beside it has the identity of the kit that proved it, and
 goes into the package. As a program, `xemdulba_build.py FOLDER` puts the library and that file into a folder.
 """
 
@@ -64,7 +64,7 @@ def _folder() -> Path:
     if known is not None and Path(known, ARCHIVE).is_file():
         return Path(known)
     raise BuildError(
-        f"there is no {ARCHIVE}: set XEMDULBA_LIB_DIR to its folder, or run `rt staticlib xemdulba` in the source folder, "
+        f"there is no {ARCHIVE}: set XEMDULBA_LIB_DIR to its folder, or run `cli/archive` in the source folder, "
         "or install it where pkg-config looks"
     )
 
