@@ -15,7 +15,7 @@ use Rattle.labels.specs.declared.Label.{Label}
 use Rattle.labels.specs.Labels.{label}
 use Rattle.book.specs.declared.Value.{Value}
 use Rattle.book.specs.declared.Value.TheVariants.{CellName}
-use Rattle.book.specs.Control.{if◌then◌else◌}
+use Rattle.book.specs.Control.{when◌then◌else◌}
 use Rattle.book.specs.Book.{value_of}
 use Rattle.machine.specs.Histories.{sources}
 use Rattle.machine.specs.States.{Traced, State}
@@ -109,7 +109,7 @@ settled j t = record { job = kept j t.job t.effect; effect = t.effect }
 
 -- a number in a table
 abbrev pub clamped : ℕ → ℕ
-clamped k = if ltb k table_size then k else 0
+clamped k = when ltb k table_size then k else 0
 
 -- the sorts of acts, by the number of each in the enum
 abbrev pub give_sort : ℕ

@@ -22,7 +22,7 @@ use Rattle.book.specs.declared.Fault.TheVariants.{Nowhere, At}
 use Rattle.book.specs.declared.Refusal.{Refusal}
 use Rattle.book.specs.declared.Refusal.TheVariants.{Passed, Refused}
 use Rattle.book.specs.declared.Found.{Found}
-use Rattle.book.specs.Control.{if◌then◌else◌, those, while, sweep}
+use Rattle.book.specs.Control.{when◌then◌else◌, those, while, sweep}
 use Rattle.book.specs.Kinds.{span}
 use Rattle.book.specs.Spans.{next_by, cut_by, offsets_in, offsets_by}
 use Rattle.book.specs.Records.{records_from, in_group}
@@ -166,7 +166,7 @@ module _ (s : List ℕ) where
   unfolding order_fault misplaced
   order_placed = sweep_placed _ _ _ (length s) (λ p. ends (eqb p 4)) (records_below s 0) 0
     where
-      ends : (b : Bool) → PlacedIn (length s) (if b then Nowhere else At (length s))
+      ends : (b : Bool) → PlacedIn (length s) (when b then Nowhere else At (length s))
       ends true = nowhere_placed (length s)
       ends false = at_placed (length s) (length s) (omega arith)
 

@@ -9,14 +9,14 @@ use mathlib.Core.Bool.{Bool, ◌&&◌}
 use Prim.Native.Nat.{ℕ, suc, ◌≤◌, ◌<◌}
 use lib.Dec.{T, eqb, eqb→eq}
 use lib.ListN.{length, get_or}
-use Rattle.book.specs.Control.{if◌then◌else◌}
+use Rattle.book.specs.Control.{when◌then◌else◌}
 use Rattle.book.specs.Kinds.{layout_of, limits, span}
 use Rattle.book.specs.Asked.{limit, Limited, Fixed}
 use Rattle.book.proofs.Computed.{and_left, and_right, all_below, ranged, between}
 
 -- what antt computes: the span of a kind, the limit of its field i
 abbrev pub span_at : ℕ → ℕ
-span_at k = if eqb (layout_of k).group 0 then 0 else suc (length (layout_of k).limits)
+span_at k = when eqb (layout_of k).group 0 then 0 else suc (length (layout_of k).limits)
 
 abbrev pub limit_at : ℕ → ℕ → ℕ
 limit_at k i = get_or (layout_of k).limits i 255

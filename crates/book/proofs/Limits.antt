@@ -11,7 +11,7 @@ use borrow.Author.Tests.{eqb-true}
 use Rattle.labels.proofs.Impossible.{impossible}
 use Rattle.book.specs.declared.Fault.TheVariants.{Nowhere, At}
 use Rattle.book.specs.declared.Tally.{Tally}
-use Rattle.book.specs.Control.{if◌then◌else◌, those, sweep}
+use Rattle.book.specs.Control.{when◌then◌else◌, those, sweep}
 use Rattle.book.specs.Kinds.{group}
 use Rattle.book.specs.Records.{byte_at, records, in_group}
 use Rattle.book.specs.Book.{group_of}
@@ -19,7 +19,7 @@ use Rattle.book.specs.Refusals.{no_tally, counted, too_many, beyond, count_fault
 use Rattle.book.proofs.Stages.{few_shapes_lem, few_cells_lem, few_blocks_lem, none_few}
 
 abbrev more : Bool → ℕ → ℕ
-more b n = if b then n + 1 else n
+more b n = when b then n + 1 else n
 
 -- a record adds to its own group
 module _ (n : Tally) (g : ℕ) where

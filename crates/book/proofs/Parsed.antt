@@ -12,7 +12,7 @@ use borrow.Author.Tests.{ne_eqb, eqb-true, eqb-false, not-false}
 use Rattle.book.specs.declared.Fault.TheVariants.{Nowhere}
 use Rattle.book.specs.declared.Tally.{Tally}
 use Rattle.book.specs.declared.Refusal.TheVariants.{Passed}
-use Rattle.book.specs.Control.{if◌then◌else◌, those, while, sweep}
+use Rattle.book.specs.Control.{when◌then◌else◌, those, while, sweep}
 use Rattle.book.specs.Kinds.{group}
 use Rattle.book.specs.Records.{byte_at, next, records, records_from, in_group}
 use Rattle.book.specs.Book.{Book, Block, group_of, cells_of, blocks_of, steps_from, declared_at, step_at, block_at, parse}
@@ -95,7 +95,7 @@ module _ (s : List ℕ) where
 module _ (s : List ℕ) (f : ℕ → Bool) (cells blocks : ℕ) where
   -- 6: a record, and those behind it, name what exists
   abbrev Named : ℕ → Type 0
-  Named o = Cleared (dangling f cells blocks s) (λ n o. if in_group s 2 o then n + 1 else n) (λ n. Nowhere) s o
+  Named o = Cleared (dangling f cells blocks s) (λ n o. when in_group s 2 o then n + 1 else n) (λ n. Nowhere) s o
 
   cell_in : (o : ℕ) → Passing Named (in_group s 3) o → cell_named f cells blocks (declared_at s o) ≡ true
   unfolding dangling

@@ -18,7 +18,7 @@ use Rattle.book.specs.declared.Refusal.{Refusal}
 use Rattle.book.specs.declared.Refusal.TheVariants.{Passed, Refused}
 use Rattle.book.specs.declared.Outline.{Outline}
 use Rattle.book.specs.declared.Reading.{Reading}
-use Rattle.book.specs.Control.{if◌then◌else◌}
+use Rattle.book.specs.Control.{when◌then◌else◌}
 use Rattle.book.specs.Refusals.{cut_fault, order_fault, count_fault, range_fault, name_fault, or_refuse, unreadable}
 use Rattle.book.specs.Outline.{outline_of, refused_reading, reading_of, reading}
 use Rattle.book.specs.Asked.{Whole, Small, Clear, Outlined}
@@ -95,7 +95,7 @@ unfolding or_refuse
 stage n Nowhere r e = (refl, e)
 stage n (At o) r e = impossible cc
 
-first : (b : Bool) (r : Refusal) → (if b then Refused 1 0 else r) ≡ Passed → (b ≡ false) × (r ≡ Passed)
+first : (b : Bool) (r : Refusal) → (when b then Refused 1 0 else r) ≡ Passed → (b ≡ false) × (r ≡ Passed)
 first true r e = impossible cc
 first false r e = (refl, e)
 

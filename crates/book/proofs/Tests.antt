@@ -3,7 +3,7 @@
 use mathlib.Core.Path.{◌≡◌, refl}
 use mathlib.Core.Bool.{Bool, true, false}
 use Rattle.labels.proofs.Impossible.{impossible}
-use Rattle.book.specs.Control.{if◌then◌else◌, both, either}
+use Rattle.book.specs.Control.{when◌then◌else◌, both, either}
 
 pub clash : {X : Type 0} {b : Bool} → b ≡ true → b ≡ false → X
 clash p q = impossible cc
@@ -38,6 +38,6 @@ unfolding either
 either_false true = refl
 either_false false = refl
 
-pub if_both : {A : Type 0} (P : A → Type 0) (b : Bool) {x y : A} → P x → P y → P (if b then x else y)
+pub if_both : {A : Type 0} (P : A → Type 0) (b : Bool) {x y : A} → P x → P y → P (when b then x else y)
 if_both P true p q = p
 if_both P false p q = q

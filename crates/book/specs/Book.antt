@@ -15,7 +15,7 @@ use Rattle.book.specs.declared.Step.{Step}
 use Rattle.book.specs.declared.Step.TheVariants.{Put, Name, Code, Add, New, Read, Write, Relabel, Lower, Start, Exec, Choose}
 use Rattle.book.specs.Numbers.{plain_shape_kind, code_shape_kind, cell_shape_kind, put_kind, name_kind, code_kind, add_kind, new_kind, read_kind, write_kind, relabel_kind}
 use Rattle.book.specs.Numbers.{lower_kind, start_kind, exec_kind, shape_group, cell_group, block_group, step_group, plain_value, cell_value, code_value}
-use Rattle.book.specs.Control.{if◌then◌else◌, those, while}
+use Rattle.book.specs.Control.{when◌then◌else◌, those, while}
 use Rattle.book.specs.Records.{byte_at, number_at, records, records_from, in_group}
 
 -- the records of group g
@@ -38,13 +38,13 @@ steps_from s o = while (in_group s step_group) (records_from s o)
 -- "16 plain shape, no body; 17 code shape: bound; 18 cell shape: content shape, trust"; what a kind does not have is 0
 unfoldable pub shape_at : List ℕ → ℕ → Shape
 shape_at s o =
-    if eqb (byte_at s o) code_shape_kind then record { kind = code_shape_kind; bound = label (byte_at s (o + 1)); content = 0; trust = trust 0 }
-    else if eqb (byte_at s o) cell_shape_kind then record { kind = cell_shape_kind; bound = label 0; content = byte_at s (o + 1); trust = trust (byte_at s (o + 2)) }
+    when eqb (byte_at s o) code_shape_kind then record { kind = code_shape_kind; bound = label (byte_at s (o + 1)); content = 0; trust = trust 0 }
+    else when eqb (byte_at s o) cell_shape_kind then record { kind = cell_shape_kind; bound = label 0; content = byte_at s (o + 1); trust = trust (byte_at s (o + 2)) }
     else record { kind = plain_shape_kind; bound = label 0; content = 0; trust = trust 0 }
 
 -- "value kind (0 plain, 1 cell, 2 code), number (for kinds 1 and 2 the cell or block number)"
 unfoldable pub value_of : ℕ → ℕ → Value
-value_of k n = if eqb k plain_value then Plain n else if eqb k cell_value then CellName n else CodeName n
+value_of k n = when eqb k plain_value then Plain n else when eqb k cell_value then CellName n else CodeName n
 
 -- "0 plain, 1 cell, 2 code"
 abbrev pub kind_of : Value → ℕ
@@ -70,17 +70,17 @@ step_at s o =
     let x = byte_at s (o + 1) in
     let y = byte_at s (o + 2) in
     let z = byte_at s (o + 3) in
-    if eqb k put_kind then Put x (number_at s (o + 2))
-    else if eqb k name_kind then Name x y
-    else if eqb k code_kind then Code x y
-    else if eqb k add_kind then Add x y z
-    else if eqb k new_kind then New x y z
-    else if eqb k read_kind then Read x y
-    else if eqb k write_kind then Write x y
-    else if eqb k relabel_kind then Relabel x (label y)
-    else if eqb k lower_kind then Lower (label x)
-    else if eqb k start_kind then Start x
-    else if eqb k exec_kind then Exec x
+    when eqb k put_kind then Put x (number_at s (o + 2))
+    else when eqb k name_kind then Name x y
+    else when eqb k code_kind then Code x y
+    else when eqb k add_kind then Add x y z
+    else when eqb k new_kind then New x y z
+    else when eqb k read_kind then Read x y
+    else when eqb k write_kind then Write x y
+    else when eqb k relabel_kind then Relabel x (label y)
+    else when eqb k lower_kind then Lower (label x)
+    else when eqb k start_kind then Start x
+    else when eqb k exec_kind then Exec x
     else Choose x y z
 
 pub record Block : Type 0 where

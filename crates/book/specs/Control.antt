@@ -1,5 +1,5 @@
 -- Tests, and what tests pick from a list.
---     if_then_else_, both, either     cases on tests
+--     when_then_else_, both, either     cases on tests
 --     on_some                          on what may be missing
 --     those, while                    the members that pass; those before the first that does not
 --     sweep, first                    the first member at fault
@@ -9,10 +9,10 @@ use Rattle.std.proofs.Math.Option.{Option, none, some}
 use Rattle.book.specs.declared.Fault.{Fault}
 use Rattle.book.specs.declared.Fault.TheVariants.{Nowhere, At}
 
-infixr 10 if◌then◌else◌
-abbrev pub if◌then◌else◌ {ℓ} : {A : Type ℓ} → Bool → A → A → A
-if true then a else b = a
-if false then a else b = b
+infixr 10 when◌then◌else◌
+abbrev pub when◌then◌else◌ {ℓ} : {A : Type ℓ} → Bool → A → A → A
+when true then a else b = a
+when false then a else b = b
 
 -- `◌&&◌` and `◌||◌` of the library are abbreviations, open everywhere. These are opened by name, so that a law can be about them.
 unfoldable pub both : Bool → Bool → Bool

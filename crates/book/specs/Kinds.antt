@@ -4,7 +4,7 @@
 --     group, limits, span              its group, its fields' largest values, the bytes of its records
 -- Assumes nothing.
 use Rattle.std.specs.Prelude.{ℕ, suc, true, false, List, [], ◌∷◌, length, eqb}
-use Rattle.book.specs.Control.{if◌then◌else◌}
+use Rattle.book.specs.Control.{when◌then◌else◌}
 use Rattle.book.specs.Numbers.{c_kind, plain_shape_kind, code_shape_kind, cell_shape_kind, cell_kind, block_kind, put_kind, name_kind, code_kind, add_kind, new_kind, read_kind}
 use Rattle.book.specs.Numbers.{write_kind, relabel_kind, lower_kind, start_kind, exec_kind, choose_kind}
 use Rattle.book.specs.Numbers.{no_group, c_group, shape_group, cell_group, block_group, step_group}
@@ -57,4 +57,4 @@ limits k = (layout_of k).limits
 
 -- "A record is one byte of kind, then a body whose length the kind fixes." 0 for what is no kind.
 unfoldable pub span : ℕ → ℕ
-span k = if eqb (layout_of k).group no_group then 0 else suc (length (layout_of k).limits)
+span k = when eqb (layout_of k).group no_group then 0 else suc (length (layout_of k).limits)

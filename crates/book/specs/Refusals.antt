@@ -15,7 +15,7 @@ use Rattle.book.specs.declared.Value.TheVariants.{Plain, CellName, CodeName}
 use Rattle.book.specs.declared.Declared.{Declared}
 use Rattle.book.specs.declared.Step.{Step}
 use Rattle.book.specs.Numbers.{cell_shape_kind, no_group, c_group, shape_group, cell_group, block_group, step_group, max_shapes, max_cells, max_blocks, max_steps, max_book_bytes}
-use Rattle.book.specs.Control.{if◌then◌else◌, both, either, sweep, first}
+use Rattle.book.specs.Control.{when◌then◌else◌, both, either, sweep, first}
 use Rattle.book.specs.Kinds.{limits, group}
 use Rattle.book.specs.Records.{byte_at, records, cut, in_group}
 use Rattle.book.specs.Parts.{Reference, to_nothing, to_cell, to_block, to_cell_shape, to_blocks, parts_of}
@@ -28,12 +28,12 @@ cut_fault s = first (cut s) (records s)
 -- 3: A record of group g may stand after one of group p; a step counts as of its block's group there, and p is none before the first record.
 -- "First record, once." "Groups stand in this order: C, shapes, cells, blocks. A step before the first block is out of order."
 unfoldable pub in_order : ℕ → ℕ → Bool
-in_order p g = if eqb p no_group then eqb g c_group else if eqb g step_group then eqb p block_group else both (ltb c_group g) (leb p g)
+in_order p g = when eqb p no_group then eqb g c_group else when eqb g step_group then eqb p block_group else both (ltb c_group g) (leb p g)
 
 -- "The first record is missing or not C, a record is out of order, or no block stands (place: the book's length, or 0 if it is empty)."
 unfoldable pub misplaced : List ℕ → ℕ → List ℕ → Fault
 misplaced s p os =
-    sweep (λ p o. not (in_order p (group (byte_at s o)))) (λ p o. min (group (byte_at s o)) block_group) (λ p. if eqb p block_group then Nowhere else At (length s)) p os
+    sweep (λ p o. not (in_order p (group (byte_at s o)))) (λ p o. min (group (byte_at s o)) block_group) (λ p. when eqb p block_group then Nowhere else At (length s)) p os
 
 unfoldable pub order_fault : List ℕ → Fault
 order_fault s = misplaced s no_group (records s)
@@ -44,10 +44,10 @@ no_tally = record { shapes = 0; cells = 0; blocks = 0; steps = 0 }
 
 unfoldable pub counted : Tally → ℕ → Tally
 counted n g =
-    if eqb g shape_group then record { shapes = n.shapes + 1; cells = n.cells; blocks = n.blocks; steps = n.steps }
-    else if eqb g cell_group then record { shapes = n.shapes; cells = n.cells + 1; blocks = n.blocks; steps = n.steps }
-    else if eqb g block_group then record { shapes = n.shapes; cells = n.cells; blocks = n.blocks + 1; steps = 0 }
-    else if eqb g step_group then record { shapes = n.shapes; cells = n.cells; blocks = n.blocks; steps = n.steps + 1 }
+    when eqb g shape_group then record { shapes = n.shapes + 1; cells = n.cells; blocks = n.blocks; steps = n.steps }
+    else when eqb g cell_group then record { shapes = n.shapes; cells = n.cells + 1; blocks = n.blocks; steps = n.steps }
+    else when eqb g block_group then record { shapes = n.shapes; cells = n.cells; blocks = n.blocks + 1; steps = 0 }
+    else when eqb g step_group then record { shapes = n.shapes; cells = n.cells; blocks = n.blocks; steps = n.steps + 1 }
     else n
 
 -- "beyond 32 shapes, 32 cells, 64 blocks or 64 steps in a block"
@@ -98,13 +98,13 @@ module _ (is_cell_shape : ℕ → Bool) (cells blocks : ℕ) where
   -- the record at o, before which n shapes stand: "A content shape is not lower-numbered than its cell shape, .."
   unfoldable pub dangling : List ℕ → ℕ → ℕ → Bool
   dangling s n o =
-      if eqb (byte_at s o) cell_shape_kind then leb n (byte_at s (o + 1))
-      else if in_group s cell_group o then not (cell_named (declared_at s o))
-      else if in_group s step_group o then not (step_named (step_at s o))
+      when eqb (byte_at s o) cell_shape_kind then leb n (byte_at s (o + 1))
+      else when in_group s cell_group o then not (cell_named (declared_at s o))
+      else when in_group s step_group o then not (step_named (step_at s o))
       else false
 
   unfoldable pub dangles : List ℕ → ℕ → List ℕ → Fault
-  dangles s n os = sweep (dangling s) (λ n o. if in_group s shape_group o then n + 1 else n) (λ n. Nowhere) n os
+  dangles s n os = sweep (dangling s) (λ n o. when in_group s shape_group o then n + 1 else n) (λ n. Nowhere) n os
 
 -- past the shapes: no shape
 abbrev pub no_shape : Shape
@@ -124,7 +124,7 @@ or_refuse n (At o) r = Refused n o
 -- 1: "The book is longer than 32,768 bytes." Place 0.
 unfoldable pub unreadable : List ℕ → Refusal
 unreadable s =
-    if ltb max_book_bytes (length s) then Refused 1 0
+    when ltb max_book_bytes (length s) then Refused 1 0
     else or_refuse 2 (cut_fault s)
     (or_refuse 3 (order_fault s)
     (or_refuse 4 (count_fault s)

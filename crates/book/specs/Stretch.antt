@@ -12,7 +12,7 @@ use Rattle.book.specs.declared.StepAt.TheVariants.{NoStep, StepThere}
 use Rattle.book.specs.declared.CellAt.{CellAt}
 use Rattle.book.specs.declared.CellAt.TheVariants.{NoCell, CellThere}
 use Rattle.book.specs.Numbers.{cell_group, step_group}
-use Rattle.book.specs.Control.{if◌then◌else◌, both}
+use Rattle.book.specs.Control.{when◌then◌else◌, both}
 use Rattle.book.specs.Records.{next, cut, in_group}
 use Rattle.book.specs.Book.{blocks_of, step_at, declared_at}
 use Rattle.book.specs.Refusals.{unreadable}
@@ -27,7 +27,7 @@ unfoldable pub found_in : Refusal → List ℕ → ℕ → Found
 found_in (Refused n o) s i = lost n o
 found_in Passed s i =
     let o = get_or (blocks_of s) i 0 in
-    if ltb i (length (blocks_of s)) then record { refusal = Passed; start = start_at o; length = length_at s o } else lost 12 0
+    when ltb i (length (blocks_of s)) then record { refusal = Passed; start = start_at o; length = length_at s o } else lost 12 0
 
 abbrev pub found_block : List ℕ → ℕ → Found
 found_block s i = found_in (unreadable s) s i
@@ -40,11 +40,11 @@ abbrev pub stands : List ℕ → ℕ → ℕ → Bool
 stands s g o = both (ltb o (length s)) (both (in_group s g o) (not (cut s o)))
 
 unfoldable pub step_found : List ℕ → ℕ → StepAt
-step_found s o = if stands s step_group o then StepThere (step_at s o) (next s o) else NoStep
+step_found s o = when stands s step_group o then StepThere (step_at s o) (next s o) else NoStep
 
 -- the offset past it, 0 where none stands
 unfoldable pub step_end : List ℕ → ℕ → ℕ
-step_end s o = if stands s step_group o then next s o else 0
+step_end s o = when stands s step_group o then next s o else 0
 
 unfoldable pub cell_found : List ℕ → ℕ → CellAt
-cell_found s o = if stands s cell_group o then CellThere (declared_at s o) else NoCell
+cell_found s o = when stands s cell_group o then CellThere (declared_at s o) else NoCell

@@ -10,7 +10,7 @@ use Rattle.labels.specs.Labels.{label}
 use Rattle.book.specs.declared.Fault.{Fault}
 use Rattle.book.specs.declared.Refusal.{Refusal}
 use Rattle.book.specs.declared.Refusal.TheVariants.{Passed, Refused}
-use Rattle.book.specs.Control.{if◌then◌else◌, first}
+use Rattle.book.specs.Control.{when◌then◌else◌, first}
 use Rattle.book.specs.Spans.{byte_at, next_by, cut_by, offsets_by}
 use Rattle.book.specs.Records.{number_at}
 use Rattle.book.specs.Refusals.{or_refuse}
@@ -44,12 +44,12 @@ max_list_bytes = 65536
 -- "Events, laid out as records are (kind byte, then one-byte fields, a number of 4)". 0 for a kind that is none.
 unfoldable pub event_span : ℕ → ℕ
 event_span k =
-    if eqb k step_event then 2
-    else if eqb k write_event then 8
-    else if eqb k relabel_event then 4
-    else if eqb k new_event then 8
-    else if eqb k exec_event then 3
-    else if eqb k start_event then 3
+    when eqb k step_event then 2
+    else when eqb k write_event then 8
+    else when eqb k relabel_event then 4
+    else when eqb k new_event then 8
+    else when eqb k exec_event then 3
+    else when eqb k start_event then 3
     else 0
 
 -- the offset past the event at o
@@ -73,11 +73,11 @@ event_at list o =
     let y = byte_at list (o + 2) in
     let z = byte_at list (o + 3) in
     let n = number_at list (o + 4) in
-    if eqb k step_event then StepOf x
-    else if eqb k write_event then WriteBy (label x) y z n
-    else if eqb k relabel_event then RelabelBy (label x) y (label z)
-    else if eqb k new_event then NewBy (label x) y z n
-    else if eqb k exec_event then ExecBy (label x) y
+    when eqb k step_event then StepOf x
+    else when eqb k write_event then WriteBy (label x) y z n
+    else when eqb k relabel_event then RelabelBy (label x) y (label z)
+    else when eqb k new_event then NewBy (label x) y z n
+    else when eqb k exec_event then ExecBy (label x) y
     else StartBy (label x) y
 
 -- the events from o on, and all of them
@@ -93,7 +93,7 @@ event_fault list = first (event_cut list) (offsets_from list 0)
 
 -- 9: "The event list exceeds 65,536 bytes (place 0), or has an unknown kind or a cut body."
 unfoldable pub unplayable : List ℕ → Refusal
-unplayable list = if ltb max_list_bytes (length list) then Refused 9 0 else or_refuse 9 (event_fault list) Passed
+unplayable list = when ltb max_list_bytes (length list) then Refused 9 0 else or_refuse 9 (event_fault list) Passed
 
 -- what a refusal at o hands back
 abbrev pub refused_scan : ℕ → ℕ → Scanned

@@ -14,7 +14,7 @@ use Rattle.book.specs.declared.Shape.{Shape}
 use Rattle.book.specs.declared.Declared.{Declared}
 use Rattle.book.specs.declared.Step.{Step}
 use Rattle.book.specs.declared.Step.TheVariants.{Put, Name, Code, Add, New, Read, Write, Relabel, Lower, Start, Exec, Choose}
-use Rattle.book.specs.Control.{if◌then◌else◌, both, either}
+use Rattle.book.specs.Control.{when◌then◌else◌, both, either}
 use Rattle.book.specs.Book.{Block, parse}
 use Rattle.book.proofs.Every.{All}
 use Rattle.typing.specs.declared.Known.{Known}
@@ -57,7 +57,7 @@ step_by B t (Add r a b) = refl
 step_by B t (New r i a) = rw (fits_by_lem B.c B.shape (R.known B.c t a) (content_of B.c B.shape i)) refl
 step_by B t (Read r w) = refl
 step_by B t (Write w a) =
-    λ z. if R.is_low B.c t.p then passes t
+    λ z. when R.is_low B.c t.p then passes t
     else R.on_known_cell (R.known B.c t w)
     (λ i. R.stuck_unless (is_met (counted_trust B.c B.shape i) t.p)
     (R.breaks_unless
@@ -67,7 +67,7 @@ step_by B t (Write w a) =
 step_by B t (Relabel w o) = refl
 step_by B t (Lower q) = go (R.is_low B.c t.p)
   where
-    go : (b : Bool) → R.lower_rule B.c t q ≡ (if b then R.lower_rule B.c t q else R.lower_rule B.c t q)
+    go : (b : Bool) → R.lower_rule B.c t q ≡ (when b then R.lower_rule B.c t q else R.lower_rule B.c t q)
     go true = refl
     go false = refl
 step_by B t (Start b) = refl

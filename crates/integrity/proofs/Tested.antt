@@ -7,7 +7,7 @@ use mathlib.Core.Bool.{Bool, true, false}
 use mathlib.Core.List.Memᴰ
 use mathlib.Core.List.{List, [], ◌∷◌}
 use Rattle.labels.specs.Labels.{reaches, is_above, is_met, is_high}
-use Rattle.book.specs.Control.{if◌then◌else◌, both}
+use Rattle.book.specs.Control.{when◌then◌else◌, both}
 use Rattle.book.specs.Book.{Book}
 use Rattle.book.proofs.Tests.{clash}
 use Rattle.machine.specs.Histories.{History, hands}
@@ -20,12 +20,12 @@ use Rattle.integrity.proofs.Booleans.{both_true}
 module _ (K : Book) where
   unfoldable pub cell_holds : Cell History → Bool
   cell_holds c =
-      if is_high (stated_trust K c.shape) K.c
+      when is_high (stated_trust K c.shape) K.c
       then both (is_met (stated_trust K c.shape) c.label) (every (is_met (stated_trust K c.shape)) (hands c.content.history))
       else true
 
   unfoldable pub job_holds : Job History → Bool
-  job_holds j = if is_above j.label K.c then every (λ h. reaches h j.label) (hands j.history) else true
+  job_holds j = when is_above j.label K.c then every (λ h. reaches h j.label) (hands j.history) else true
 
   unfoldable pub sentences_hold : State History → Bool
   sentences_hold s = both (every cell_holds s.cells) (every job_holds s.jobs)

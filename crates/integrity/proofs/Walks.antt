@@ -10,7 +10,7 @@ use Rattle.labels.specs.declared.Label.{Label}
 use Rattle.book.specs.declared.Value.{Value}
 use Rattle.book.specs.declared.Value.TheVariants.{Plain, CellName, CodeName}
 use Rattle.book.specs.Book.{Book}
-use Rattle.book.specs.Control.{if◌then◌else◌, on_some}
+use Rattle.book.specs.Control.{when◌then◌else◌, on_some}
 use Rattle.typing.specs.declared.Known.{Known}
 use Rattle.typing.specs.declared.Known.TheVariants as N
 use Rattle.typing.specs.declared.State as T
@@ -52,7 +52,7 @@ module _ (K : Book) where
       free_ok {b = true} f g = f refl
       free_ok {b = false} f g = g refl
 
-      pub either_ok : (b : Bool) {t u : Typed} → (b ≡ true → StepOk cs j t o) → (b ≡ false → StepOk cs j u o) → StepOk cs j (if b then t else u) o
+      pub either_ok : (b : Bool) {t u : Typed} → (b ≡ true → StepOk cs j t o) → (b ≡ false → StepOk cs j u o) → StepOk cs j (when b then t else u) o
       either_ok true f g = f refl
       either_ok false f g = g refl
 

@@ -16,7 +16,7 @@ use Rattle.book.specs.declared.Declared.{Declared}
 use Rattle.book.specs.declared.Step.{Step}
 use Rattle.book.specs.declared.Step.TheVariants.{Put, Name, Code, Add, New, Read, Write, Relabel, Lower, Start, Exec, Choose}
 use Rattle.book.specs.declared.Refusal.TheVariants.{Passed}
-use Rattle.book.specs.Control.{if◌then◌else◌, both, either}
+use Rattle.book.specs.Control.{when◌then◌else◌, both, either}
 use Rattle.book.specs.Book.{Book, Block, parse}
 use Rattle.book.specs.Refusals.{unreadable}
 use Rattle.typing.specs.declared.Known.{Known}
@@ -36,7 +36,7 @@ use Rattle.integrity.specs.Integrity.{Sentences}
 module _ (weakened : String) where
   -- y; where this place is weakened, x in its stead
   abbrev pub instead : {A : Type 0} → String → A → A → A
-  instead place x y = if eqt weakened place then x else y
+  instead place x y = when eqt weakened place then x else y
 
   -- the test; where this place is weakened, nothing is asked
   abbrev pub asked : String → Bool → Bool
@@ -106,7 +106,7 @@ module _ (weakened : String) where
     -- "read: w of low effect gives low; else w is a cell, and the result has its content shape and the smaller of S and P."
     abbrev pub read_rule_by : State → ℕ → ℕ → Typed
     read_rule_by t r w =
-        if instead "read: w of low effect" false (is_low c (register_type t w).effect) then gives_low t r
+        when instead "read: w of low effect" false (is_low c (register_type t w).effect) then gives_low t r
         else on_known_cell (cell_by "read: w of low effect" t w)
         (λ i. gives t r (known_of c shape (content_of c shape i)) (instead "read: the smaller of S and P" t.p (capped (counted_trust c shape i) t.p)))
 
@@ -172,7 +172,7 @@ module _ (weakened : String) where
     -- "A declared cell of trust above C needs label at least trust and a fitting value. Others need nothing."
     unfoldable pub declared_by : Declared → Bool
     declared_by d =
-        if high B.c B.shape "declared: trust above C" d.shape
+        when high B.c B.shape "declared: trust above C" d.shape
         then both (asked "declared: label at least trust" (is_met (counted_trust B.c B.shape d.shape) d.label))
         (asked "declared: a fitting value"
         (fits_by B.c B.shape (known_value B.cell B.bound d.value) (content_of B.c B.shape d.shape)))
@@ -180,7 +180,7 @@ module _ (weakened : String) where
 
     -- x at "P at or below C", else y
     abbrev pub at_low : State → Typed → Typed → Typed
-    at_low t x y = if is_low (raised "P at or below C" B.c) t.p then x else y
+    at_low t x y = when is_low (raised "P at or below C" B.c) t.p then x else y
 
     -- a step: at low P as it is, else by x
     abbrev pub marked : State → Step → Typed → Typed

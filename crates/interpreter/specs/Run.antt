@@ -9,7 +9,7 @@ use Rattle.labels.specs.declared.Label.{Label}
 use Rattle.labels.specs.Labels.{is_above}
 use Rattle.book.specs.declared.Refusal.{Refusal}
 use Rattle.book.specs.declared.Refusal.TheVariants.{Passed, Refused}
-use Rattle.book.specs.Control.{if◌then◌else◌, both}
+use Rattle.book.specs.Control.{when◌then◌else◌, both}
 use Rattle.book.specs.Book.{parse}
 use Rattle.book.specs.Refusals.{unreadable}
 use Rattle.machine.specs.declared.Launch.{Launch}
@@ -30,11 +30,11 @@ or_next (Refused n o) r = Refused n o
 
 -- 10: "The cell or job table has not exactly 64 entries."
 unfoldable pub untabled : ℕ → ℕ → Refusal
-untabled cells jobs = if both (eqb cells cell_table_length) (eqb jobs job_table_length) then Passed else Refused 10 0
+untabled cells jobs = when both (eqb cells cell_table_length) (eqb jobs job_table_length) then Passed else Refused 10 0
 
 -- 11: "The answer buffer has fewer bytes than the list has events."
 unfoldable pub unanswered : ℕ → ℕ → Refusal
-unanswered room events = if ltb room events then Refused 11 0 else Passed
+unanswered room events = when ltb room events then Refused 11 0 else Passed
 
 -- 10, then 11
 abbrev pub memory_refusal : ℕ → ℕ → ℕ → ℕ → Refusal
@@ -43,7 +43,7 @@ memory_refusal events cells jobs room = or_next (untabled cells jobs) (unanswere
 -- 02, Three: 14, "when the launch label is above block 0's bound"
 unfoldable pub unlaunched : Label → Launch → Refusal
 unlaunched bound Default = Passed
-unlaunched bound (Given l) = if is_above l bound then Refused 14 0 else Passed
+unlaunched bound (Given l) = when is_above l bound then Refused 14 0 else Passed
 
 -- "running 1 to 6 and 9 to 11"; 02, Three: "14, after 11". By the refusals of the book, of the list and of the launch label, with the number of events
 unfoldable pub refusal_by : Refusal → Refusal → Refusal → ℕ → ℕ → ℕ → ℕ → Refusal

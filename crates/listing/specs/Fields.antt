@@ -6,7 +6,7 @@
 --     event_has_number, event_fields        the event at an offset of a list
 -- Assumes nothing.
 use Rattle.std.specs.Prelude.{ℕ, ◌+◌, ◌-◌, Bool, List, ltb, eqb}
-use Rattle.book.specs.Control.{if◌then◌else◌, either}
+use Rattle.book.specs.Control.{when◌then◌else◌, either}
 use Rattle.book.specs.Numbers.{cell_kind, put_kind}
 use Rattle.book.specs.Kinds.{span}
 use Rattle.book.specs.Spans.{byte_at, next_by, cut_by}
@@ -16,14 +16,14 @@ use Rattle.listing.specs.declared.Fields.{Fields}
 
 -- the field of one byte at i, where these fields end at e: "absent ones 0"
 unfoldable pub field_at : List ℕ → ℕ → ℕ → ℕ
-field_at s i e = if ltb i e then byte_at s i else 0
+field_at s i e = when ltb i e then byte_at s i else 0
 
 -- where the fields of one byte end, if the next record is at n: "a number is 4 bytes", and stands behind them
 unfoldable pub fields_end : ℕ → Bool → ℕ
-fields_end n numbered = if numbered then n - 4 else n
+fields_end n numbered = when numbered then n - 4 else n
 
 unfoldable pub number_if : Bool → List ℕ → ℕ → ℕ
-number_if numbered s e = if numbered then number_at s e else 0
+number_if numbered s e = when numbered then number_at s e else 0
 
 -- "a kind of 0 where no whole record stands", and all else 0 too
 abbrev pub no_fields : Fields
@@ -44,7 +44,7 @@ fields_to s o n numbered =
 
 -- by a span, and by which kinds have a number: what stands at o if a record begins there. Past the end the byte is 0, which is no kind.
 unfoldable pub fields_by : (ℕ → ℕ) → (ℕ → Bool) → List ℕ → ℕ → Fields
-fields_by span numbered s o = if cut_by span s o then no_fields else fields_to s o (next_by span s o) (numbered (byte_at s o))
+fields_by span numbered s o = when cut_by span s o then no_fields else fields_to s o (next_by span s o) (numbered (byte_at s o))
 
 -- "32 cell: shape, label, value kind .., number"; "64 put r, number". No other record has a number.
 unfoldable pub has_number : ℕ → Bool

@@ -17,7 +17,7 @@ use mathlib.Core.Bool.{Bool, true, false}
 use lib.Dec.{ltb}
 use borrow.Author.Tests.{ltb-true, ltb-false, lt-ltb, le-ltb}
 use Rattle.labels.proofs.Impossible.{impossible}
-use Rattle.book.specs.Control.{if◌then◌else◌}
+use Rattle.book.specs.Control.{when◌then◌else◌}
 use Rattle.book.proofs.Tests.{clash}
 use Rattle.rotation.specs.declared.JobFound.{JobFound}
 use Rattle.rotation.specs.declared.JobFound.TheVariants.{At, Nothing}
@@ -55,7 +55,7 @@ pub ruleset begins = (from_is, none_is)
 -- ---- distances
 -- how far place t is from place i in a ring of n
 unfoldable pub far : ℕ → ℕ → ℕ → ℕ
-far n i t = if ltb t i then n - i + t else t - i
+far n i t = when ltb t i then n - i + t else t - i
 
 pub far_wraps : (n i t : ℕ) → t < i → far n i t ≡ n - i + t
 unfolding far

@@ -7,7 +7,7 @@
 use Rattle.std.specs.Prelude.{ℕ, zero, suc, Bool, true, false, List, [], ◌∷◌, ltb, length}
 use Rattle.std.proofs.Math.ListN.{get_elem?}
 use Rattle.labels.specs.declared.Label.{Label}
-use Rattle.book.specs.Control.{if◌then◌else◌, on_some}
+use Rattle.book.specs.Control.{when◌then◌else◌, on_some}
 use Rattle.book.specs.Book.{Book}
 use Rattle.machine.specs.declared.Event.TheVariants.{StepOf}
 use Rattle.machine.specs.Histories.{Histories}
@@ -19,7 +19,7 @@ use Rattle.rotation.specs.declared.JobFound.TheVariants.{At, Nothing}
 -- the place of a ring of m at which a scan goes on that has come to number i: i itself, or 0 where i is past the last place. "wrapping at the
 -- jobs in use"
 unfoldable pub first_place : ℕ → ℕ → ℕ
-first_place i m = if ltb i m then i else 0
+first_place i m = when ltb i m then i else 0
 
 -- the place that a scan looks at after place i
 abbrev pub after : ℕ → ℕ → ℕ

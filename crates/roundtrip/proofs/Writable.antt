@@ -16,7 +16,7 @@ use Rattle.book.specs.declared.Fault.{Fault}
 use Rattle.book.specs.declared.Fault.TheVariants.{Nowhere, At}
 use Rattle.book.specs.declared.Refusal.{Refusal}
 use Rattle.book.specs.declared.Refusal.TheVariants.{Passed, Refused}
-use Rattle.book.specs.Control.{if◌then◌else◌}
+use Rattle.book.specs.Control.{when◌then◌else◌}
 use Rattle.book.specs.Refusals.{order_fault, count_fault, range_fault, name_fault, or_refuse, unreadable}
 use Rattle.rows.specs.Rows.{BookTables, rows, bytes_of, total}
 use Rattle.rows.specs.Write.{unknown_fault, spare_fault, earlier, unwritable, written_of, written}
@@ -39,7 +39,7 @@ unfolding or_refuse
 stage n Nowhere r e = (refl, e)
 stage n (At o) r e = impossible cc
 
-test : (n : ℕ) (b : Bool) (r : Refusal) → (if b then Refused n 0 else r) ≡ Passed → (b ≡ false) × (r ≡ Passed)
+test : (n : ℕ) (b : Bool) (r : Refusal) → (when b then Refused n 0 else r) ≡ Passed → (b ≡ false) × (r ≡ Passed)
 test n true r e = impossible cc
 test n false r e = (refl, e)
 

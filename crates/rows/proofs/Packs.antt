@@ -18,7 +18,7 @@ use lib.Seq.{get_or-append-add, length-take-le, get_or-take}
 use borrow.Author.Tests.{eqb-true, not-false}
 use Rattle.labels.specs.declared.Label.{Label}
 use Rattle.book.specs.declared.Fault.TheVariants.{Nowhere}
-use Rattle.book.specs.Control.{if◌then◌else◌, sweep}
+use Rattle.book.specs.Control.{when◌then◌else◌, sweep}
 use Rattle.book.specs.Kinds.{span, group}
 use Rattle.book.specs.Records.{byte_at, number_bytes}
 use Rattle.book.specs.Spans.{next_by, cut_by, offsets_by}
@@ -91,7 +91,7 @@ unfolding span
 block_formed r = known_sized 4 48 (r.bound ∷ []) (omega arith) (λ e. omega arith)
 
 -- a step's row has seven fields
-step_fields_lem : (b : Bool) (x y z : ℕ) (n : List ℕ) → length (if b then x ∷ (n ++ (y ∷ z ∷ [])) else x ∷ y ∷ z ∷ n) ≡ length n + 3
+step_fields_lem : (b : Bool) (x y z : ℕ) (n : List ℕ) → length (when b then x ∷ (n ++ (y ∷ z ∷ [])) else x ∷ y ∷ z ∷ n) ≡ length n + 3
 step_fields_lem true x y z n = let e = length-append n (y ∷ z ∷ []) in omega arith
 step_fields_lem false x y z n = omega arith
 

@@ -15,7 +15,7 @@ use Rattle.book.specs.declared.Fault.{Fault}
 use Rattle.book.specs.declared.Fault.TheVariants.{Nowhere, At}
 use Rattle.book.specs.declared.Refusal.{Refusal}
 use Rattle.book.specs.declared.Refusal.TheVariants.{Passed, Refused}
-use Rattle.book.specs.Control.{if◌then◌else◌}
+use Rattle.book.specs.Control.{when◌then◌else◌}
 use Rattle.book.specs.Refusals.{order_fault, count_fault, range_fault, name_fault, or_refuse}
 use Rattle.book.proofs.Bounds.{PlacedIn, nowhere_placed, at_placed, order_placed, count_placed, range_placed, name_placed, stage, none_refused}
 use Rattle.rows.specs.Rows.{BookTables, Row, rows, packed_rows, bytes_of, total}
@@ -41,7 +41,7 @@ at_start : (l m n o : ℕ) → Refused m 0 ≡ Refused n o → o ≤ l
 at_start l m n o e = let z : 0 ≡ o = cc in omega arith
 
 -- one refusal at 0, or another
-one_of : (l m : ℕ) (b : Bool) (r : Refusal) → ((n o : ℕ) → r ≡ Refused n o → o ≤ l) → (n o : ℕ) → (if b then Refused m 0 else r) ≡ Refused n o → o ≤ l
+one_of : (l m : ℕ) (b : Bool) (r : Refusal) → ((n o : ℕ) → r ≡ Refused n o → o ≤ l) → (n o : ℕ) → (when b then Refused m 0 else r) ≡ Refused n o → o ≤ l
 one_of l m true r q n o e = at_start l m n o e
 one_of l m false r q n o e = q n o e
 
@@ -50,13 +50,13 @@ module _ (t : BookTables) (room : ℕ) where
   s = bytes_of t
 
   after_one : (n o : ℕ)
-      → (if not (eqb (total t.blocks) (length t.steps)) then Refused 2 0
+      → (when not (eqb (total t.blocks) (length t.steps)) then Refused 2 0
       else or_refuse 2 (unknown_fault (rows t))
       (or_refuse 3 (order_fault s)
       (or_refuse 4 (count_fault s)
       (or_refuse 5 (earlier (spare_fault (rows t)) (range_fault s))
       (or_refuse 6 (name_fault s)
-      (if ltb room (length s) then Refused 13 0 else Passed))))))
+      (when ltb room (length s) then Refused 13 0 else Passed))))))
       ≡ Refused n o → o ≤ length s
   after_one =
       one_of (length s) 2 (not (eqb (total t.blocks) (length t.steps))) _

@@ -10,7 +10,7 @@ use Rattle.book.specs.declared.Step.{Step}
 use Rattle.book.specs.declared.Step.TheVariants.{Put, Name, Code, Add, New, Read, Write, Relabel, Lower, Start, Exec, Choose}
 use Rattle.book.specs.Numbers.{plain_shape_kind, code_shape_kind, cell_shape_kind, put_kind, name_kind, code_kind, add_kind, new_kind, read_kind, write_kind, relabel_kind}
 use Rattle.book.specs.Numbers.{lower_kind, start_kind, exec_kind, choose_kind}
-use Rattle.book.specs.Control.{if◌then◌else◌}
+use Rattle.book.specs.Control.{when◌then◌else◌}
 use Rattle.book.specs.Records.{number_bytes}
 use Rattle.book.specs.Book.{Book, Block, kind_of, number_of}
 use Rattle.rows.specs.Rows.{BookTables, ShapeRow, CellRow, BlockRow, StepRow}
@@ -18,8 +18,8 @@ use Rattle.rows.specs.Rows.{BookTables, ShapeRow, CellRow, BlockRow, StepRow}
 -- "16 plain shape, no body; 17 code shape: bound; 18 cell shape: content shape, trust"
 unfoldable pub shape_row_of : Shape → ShapeRow
 shape_row_of x =
-    if eqb x.kind code_shape_kind then record { kind = code_shape_kind; x = x.bound.0; y = 0 }
-    else if eqb x.kind cell_shape_kind then record { kind = cell_shape_kind; x = x.content; y = x.trust.0 }
+    when eqb x.kind code_shape_kind then record { kind = code_shape_kind; x = x.bound.0; y = 0 }
+    else when eqb x.kind cell_shape_kind then record { kind = cell_shape_kind; x = x.content; y = x.trust.0 }
     else record { kind = plain_shape_kind; x = 0; y = 0 }
 
 -- "32 cell: shape, label, value kind, number"

@@ -9,7 +9,7 @@
 -- Assumes nothing.
 use Rattle.std.specs.Prelude.{ℕ, zero, suc, ◌+◌, ◌*◌, ◌/◌, Bool, true, false, not, List, [], ◌∷◌, ◌++◌, map, eqb, length, take, drop}
 use Rattle.labels.specs.declared.Label.{Label}
-use Rattle.book.specs.Control.{if◌then◌else◌, either}
+use Rattle.book.specs.Control.{when◌then◌else◌, either}
 use Rattle.book.specs.Numbers.{c_kind, cell_kind, block_kind, put_kind, c_group, shape_group, cell_group, block_group, step_group}
 use Rattle.book.specs.Kinds.{span, group}
 use Rattle.book.specs.Spans.{packed}
@@ -116,7 +116,7 @@ some_nonzero (x ∷ xs) = either (not (eqb x 0)) (some_nonzero xs)
 -- nonzero field that its kind doesn't use" is spare. One whose kind is not of the group "counts as one byte of length".
 unfoldable pub row_of : ℕ → ℕ → List ℕ → Row
 row_of g k fields =
-    if eqb (group k) g
+    when eqb (group k) g
     then record { bytes = take (span k) (k ∷ fields); known = true; spare = some_nonzero (drop (span k) (k ∷ fields)) }
     else record { bytes = k ∷ []; known = false; spare = false }
 
@@ -134,7 +134,7 @@ block_row r = row_of block_group block_kind (r.bound ∷ [])
 
 -- put uses a register and the number, every other kind some of x, y and z
 abbrev pub step_fields : StepRow → List ℕ
-step_fields r = if eqb r.kind put_kind then r.x ∷ (number_bytes r.number ++ (r.y ∷ r.z ∷ [])) else r.x ∷ r.y ∷ r.z ∷ number_bytes r.number
+step_fields r = when eqb r.kind put_kind then r.x ∷ (number_bytes r.number ++ (r.y ∷ r.z ∷ [])) else r.x ∷ r.y ∷ r.z ∷ number_bytes r.number
 
 abbrev pub step_row : StepRow → Row
 step_row r = row_of step_group r.kind (step_fields r)

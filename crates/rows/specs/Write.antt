@@ -10,7 +10,7 @@ use Rattle.book.specs.declared.Fault.TheVariants.{Nowhere, At}
 use Rattle.book.specs.declared.Refusal.{Refusal}
 use Rattle.book.specs.declared.Refusal.TheVariants.{Passed, Refused}
 use Rattle.book.specs.Numbers.{max_book_bytes}
-use Rattle.book.specs.Control.{if◌then◌else◌}
+use Rattle.book.specs.Control.{when◌then◌else◌}
 use Rattle.book.specs.Refusals.{order_fault, count_fault, range_fault, name_fault, or_refuse}
 use Rattle.rows.specs.Rows.{BookTables, Row, rows, bytes_of, total}
 
@@ -38,14 +38,14 @@ earlier (At o) (At p) = At (min o p)
 unfoldable pub unwritable : BookTables → ℕ → Refusal
 unwritable t room =
     let s = bytes_of t in
-    if ltb max_book_bytes (length s) then Refused 1 0
-    else if not (eqb (total t.blocks) (length t.steps)) then Refused 2 0
+    when ltb max_book_bytes (length s) then Refused 1 0
+    else when not (eqb (total t.blocks) (length t.steps)) then Refused 2 0
     else or_refuse 2 (unknown_fault (rows t))
     (or_refuse 3 (order_fault s)
     (or_refuse 4 (count_fault s)
     (or_refuse 5 (earlier (spare_fault (rows t)) (range_fault s))
     (or_refuse 6 (name_fault s)
-    (if ltb room (length s) then Refused 13 0 else Passed)))))
+    (when ltb room (length s) then Refused 13 0 else Passed)))))
 
 -- the refusal, the length that is reported, and the buffer after the call
 pub record WriteResult : Type 0 where

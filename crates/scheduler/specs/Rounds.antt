@@ -7,7 +7,7 @@ use Rattle.std.specs.Prelude.{ℕ, List, map, ltb, length}
 use Rattle.labels.specs.declared.Label.{Label}
 use Rattle.book.specs.declared.Refusal.{Refusal}
 use Rattle.book.specs.declared.Refusal.TheVariants.{Passed, Refused}
-use Rattle.book.specs.Control.{if◌then◌else◌}
+use Rattle.book.specs.Control.{when◌then◌else◌}
 use Rattle.book.specs.Book.{parse}
 use Rattle.book.specs.Refusals.{unreadable}
 use Rattle.machine.specs.declared.Launch.{Launch}
@@ -24,7 +24,7 @@ most_turns = 4096
 
 -- 15: "when the turns exceed 4,096"
 unfoldable pub overlong : ℕ → Refusal
-overlong turns = if ltb most_turns turns then Refused 15 0 else Passed
+overlong turns = when ltb most_turns turns then Refused 15 0 else Passed
 
 -- The refusals of a run, but for those of its list: "Refusal 11 here means fewer answer bytes than turns." "15, after 14". By the refusals of
 -- the book and of the launch label

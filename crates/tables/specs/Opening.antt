@@ -5,14 +5,14 @@
 use Rattle.std.specs.Prelude.{ℕ, List, map, ltb, length, get_or}
 use Rattle.labels.specs.Labels.{top_label}
 use Rattle.book.specs.declared.Declared.{Declared}
-use Rattle.book.specs.Control.{if◌then◌else◌}
+use Rattle.book.specs.Control.{when◌then◌else◌}
 use Rattle.book.specs.Book.{declared_at}
 use Rattle.machine.specs.Records.{kind_of, number_of}
 use Rattle.acts.specs.declared.StoredCell.{StoredCell}
 
 -- by the table of the blocks' starts; a block that does not exist has no steps
 abbrev pub start_in : List ℕ → ℕ → ℕ → ℕ
-start_in starts x end = if ltb x (length starts) then get_or starts x 0 else end
+start_in starts x end = when ltb x (length starts) then get_or starts x 0 else end
 
 -- a declared cell, as the run holds it: "Declared values have history 15."
 abbrev pub opened_by : Declared → StoredCell

@@ -15,7 +15,7 @@ use Rattle.book.specs.declared.Step.{Step}
 use Rattle.book.specs.declared.Step.TheVariants.{Put, Name, Add, New, Read, Write, Relabel, Lower, Start, Exec, Choose}
 use Rattle.book.specs.declared.Step.TheVariants as S
 use Rattle.book.specs.Parts.{Reference, to_nothing, to_cell, to_block, to_cell_shape, to_blocks, parts_of}
-use Rattle.book.specs.Control.{if◌then◌else◌, both, either, on_some}
+use Rattle.book.specs.Control.{when◌then◌else◌, both, either, on_some}
 use Rattle.typing.specs.declared.Known.{Known}
 use Rattle.typing.specs.declared.Known.TheVariants.{Unknown, Plain, Code, CellOf}
 use Rattle.typing.specs.declared.Register.{Register}
@@ -85,7 +85,7 @@ is_low c e = reaches c e
 
 -- "Low effect means unknown shape."
 unfoldable pub known : Label → State → ℕ → Known
-known c t r = if is_low c (register_type t r).effect then Unknown else (register_type t r).known
+known c t r = when is_low c (register_type t r).effect then Unknown else (register_type t r).known
 
 -- "lower Q, at every P: stuck if Q is above both P and C; else P is Q."
 abbrev pub lowers_to : State → Label → Typed
@@ -142,7 +142,7 @@ module _ (c : Label) (shape : ℕ → Shape) where
   read_from t r i = gives t r (known_of c shape (content_of c shape i)) (capped (counted_trust c shape i) t.p)
 
   abbrev pub read_rule : State → ℕ → ℕ → Typed
-  read_rule t r w = if is_low c (register_type t w).effect then gives_low t r else on_known_cell (known c t w) (read_from t r)
+  read_rule t r w = when is_low c (register_type t w).effect then gives_low t r else on_known_cell (known c t w) (read_from t r)
 
   -- "write, relabel, exec need w a cell with used effect above C." P is above C, so that is w's effect above C.
   -- "write: stuck if P is below S; low S passes; else a fits and S is at most its used effect."
@@ -197,7 +197,7 @@ module _ (B : View) where
   high_rule t (Choose r a b) = choose_rule B.c t r (B.bound a) (B.bound b)
 
   unfoldable pub step_rule : State → Step → Typed
-  step_rule t p = if is_low B.c t.p then low_rule B.c B.shape t p else high_rule t p
+  step_rule t p = when is_low B.c t.p then low_rule B.c B.shape t p else high_rule t p
 
   -- The first of the steps at os that breaks its rule, from the state t on: "After a stuck step the rest of the block passes."
   module _ (at : ℕ → Step) where

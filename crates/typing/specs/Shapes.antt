@@ -15,7 +15,7 @@ use Rattle.book.specs.declared.Value.TheVariants.{CellName, CodeName}
 use Rattle.book.specs.declared.Value.TheVariants as Values
 use Rattle.book.specs.declared.Declared.{Declared}
 use Rattle.book.specs.Numbers.{code_shape_kind, cell_shape_kind}
-use Rattle.book.specs.Control.{if◌then◌else◌, both, either, on_some}
+use Rattle.book.specs.Control.{when◌then◌else◌, both, either, on_some}
 use Rattle.book.specs.Book.{Book, Block}
 use Rattle.book.specs.Refusals.{no_shape}
 use Rattle.typing.specs.declared.Known.{Known}
@@ -72,7 +72,7 @@ module _ (c : Label) (shape : ℕ → Shape) where
 
   -- what is known of a value that has shape i
   unfoldable pub known_of : ℕ → Known
-  known_of i = if is_code_shape i then Code (bound_of i) else if is_cell_shape i then CellOf i else Plain
+  known_of i = when is_code_shape i then Code (bound_of i) else when is_cell_shape i then CellOf i else Plain
 
   -- "A code register of bound B fits a code content of bound at most B; others fit when alike."
   unfoldable pub fits : Known → ℕ → Bool
@@ -94,7 +94,7 @@ known_value cell bound (CodeName n) = on_some (bound n) Unknown Code
 -- "A declared cell of trust above C needs label at least trust and a fitting value. Others need nothing."
 unfoldable pub declared_ok : View → Declared → Bool
 declared_ok B d =
-    if is_high_trust B.c B.shape d.shape
+    when is_high_trust B.c B.shape d.shape
     then both (is_met (counted_trust B.c B.shape d.shape) d.label)
     (fits B.c B.shape (known_value B.cell B.bound d.value) (content_of B.c B.shape d.shape))
     else true

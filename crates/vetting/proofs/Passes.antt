@@ -13,7 +13,7 @@ use borrow.Author.Tests.{eq-eqb}
 use Rattle.book.specs.declared.Fault.{Fault}
 use Rattle.book.specs.declared.Fault.TheVariants.{Nowhere}
 use Rattle.book.specs.declared.Tally.{Tally}
-use Rattle.book.specs.Control.{if◌then◌else◌, sweep, first}
+use Rattle.book.specs.Control.{when◌then◌else◌, sweep, first}
 use Rattle.book.specs.Kinds.{span, group}
 use Rattle.book.specs.Records.{byte_at}
 use Rattle.book.specs.Spans.{offsets_by}
@@ -58,16 +58,16 @@ module _ (is_cell_shape : ℕ → Bool) (cells blocks : ℕ) where
     pub named : dangles is_cell_shape cells blocks s n.shapes (offsets_by span s o) ≡ Nowhere
 
   -- the shapes of a tally are counted as those before a record are
-  shapes_on : (n : Tally) (g : ℕ) → (counted n g).shapes ≡ (if eqb g 2 then n.shapes + 1 else n.shapes)
+  shapes_on : (n : Tally) (g : ℕ) → (counted n g).shapes ≡ (when eqb g 2 then n.shapes + 1 else n.shapes)
   unfolding counted
   shapes_on n g = go (eqb g 2) (eqb g 3) (eqb g 4) (eqb g 5)
     where
       go : (a b c d : Bool)
-          → (if a then record { shapes = n.shapes + 1; cells = n.cells; blocks = n.blocks; steps = n.steps }
-          else if b then record { shapes = n.shapes; cells = n.cells + 1; blocks = n.blocks; steps = n.steps }
-          else if c then record { shapes = n.shapes; cells = n.cells; blocks = n.blocks + 1; steps = 0 }
-          else if d then record { shapes = n.shapes; cells = n.cells; blocks = n.blocks; steps = n.steps + 1 }
-          else n).shapes ≡ (if a then n.shapes + 1 else n.shapes)
+          → (when a then record { shapes = n.shapes + 1; cells = n.cells; blocks = n.blocks; steps = n.steps }
+          else when b then record { shapes = n.shapes; cells = n.cells + 1; blocks = n.blocks; steps = n.steps }
+          else when c then record { shapes = n.shapes; cells = n.cells; blocks = n.blocks + 1; steps = 0 }
+          else when d then record { shapes = n.shapes; cells = n.cells; blocks = n.blocks; steps = n.steps + 1 }
+          else n).shapes ≡ (when a then n.shapes + 1 else n.shapes)
       go true b c d = refl
       go false true c d = refl
       go false false true d = refl

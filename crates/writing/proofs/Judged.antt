@@ -18,7 +18,7 @@ use Rattle.book.specs.declared.Fault.TheVariants.{Nowhere, At}
 use Rattle.book.specs.declared.Refusal.{Refusal}
 use Rattle.book.specs.declared.Refusal.TheVariants.{Passed, Refused}
 use Rattle.book.specs.declared.Reading.{Reading}
-use Rattle.book.specs.Control.{if◌then◌else◌}
+use Rattle.book.specs.Control.{when◌then◌else◌}
 use Rattle.book.specs.Refusals.{cut_fault, order_fault, count_fault, range_fault, name_fault, or_refuse, unreadable}
 use Rattle.book.specs.Outline.{reading_of, reading}
 use Rattle.records.specs.Copies.{put_at}
@@ -155,9 +155,9 @@ pub ruleset delivers = (deliver_refused, deliver_short, deliver_done)
 
 -- 13 after 6
 room_last : (e : Bool) (u a b c d : Fault) (size room : ℕ)
-    → (if not e then Refused 2 0
-    else or_refuse 2 u (or_refuse 3 a (or_refuse 4 b (or_refuse 5 c (or_refuse 6 d (if ltb room size then Refused 13 0 else Passed))))))
-    ≡ roomed (if not e then Refused 2 0 else or_refuse 2 u (or_refuse 3 a (or_refuse 4 b (or_refuse 5 c (or_refuse 6 d Passed))))) size room
+    → (when not e then Refused 2 0
+    else or_refuse 2 u (or_refuse 3 a (or_refuse 4 b (or_refuse 5 c (or_refuse 6 d (when ltb room size then Refused 13 0 else Passed))))))
+    ≡ roomed (when not e then Refused 2 0 else or_refuse 2 u (or_refuse 3 a (or_refuse 4 b (or_refuse 5 c (or_refuse 6 d Passed))))) size room
 unfolding or_refuse roomed
 room_last false u a b c d size room = refl
 room_last true (At o) a b c d size room = refl

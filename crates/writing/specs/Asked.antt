@@ -15,7 +15,7 @@ use Rattle.book.specs.declared.Fault.TheVariants.{Nowhere, At}
 use Rattle.book.specs.declared.Refusal.{Refusal}
 use Rattle.book.specs.declared.Refusal.TheVariants.{Passed, Refused}
 use Rattle.book.specs.Numbers.{max_book_bytes}
-use Rattle.book.specs.Control.{if◌then◌else◌, both, either}
+use Rattle.book.specs.Control.{when◌then◌else◌, both, either}
 use Rattle.book.specs.Refusals.{order_fault, count_fault, range_fault, name_fault, or_refuse}
 use Rattle.writing.specs.declared.entries.Entry.{Entry}
 use Rattle.writing.specs.declared.laying.Pen.{Pen}
@@ -86,13 +86,13 @@ pub record Drafted (t : BookTables) (s : List ℕ) (p : Pen) : Type 0 where
 
 -- the place of refusal 5, where the reader refuses by n, not before 5, at p, and the first spare field stands at o
 unfoldable pub earlier_of : ℕ → ℕ → ℕ → ℕ
-earlier_of n p o = if eqb n 5 then min o p else o
+earlier_of n p o = when eqb n 5 then min o p else o
 
 -- the reader's refusal, with the first spare field
 unfoldable pub joined : Refusal → Fault → Refusal
 joined r Nowhere = r
 joined Passed (At o) = Refused 5 o
-joined (Refused n p) (At o) = if ltb n 5 then Refused n p else Refused 5 (earlier_of n p o)
+joined (Refused n p) (At o) = when ltb n 5 then Refused n p else Refused 5 (earlier_of n p o)
 
 -- refusals 3 to 6 of what would be written
 unfoldable pub judged : List ℕ → Fault → Refusal
@@ -105,10 +105,10 @@ judged s spare =
 -- refusals 2 to 6 of tables
 unfoldable pub unsound : BookTables → Refusal
 unsound t =
-    if not (eqb (total t.blocks) (length t.steps)) then Refused 2 0
+    when not (eqb (total t.blocks) (length t.steps)) then Refused 2 0
     else or_refuse 2 (unknown_fault (rows t)) (judged (bytes_of t) (spare_fault (rows t)))
 
 -- and 13, where so many bytes have to go into so much room
 unfoldable pub roomed : Refusal → ℕ → ℕ → Refusal
 roomed (Refused n o) size room = Refused n o
-roomed Passed size room = if ltb room size then Refused 13 0 else Passed
+roomed Passed size room = when ltb room size then Refused 13 0 else Passed

@@ -13,7 +13,7 @@ use Rattle.labels.specs.declared.Label.{Label}
 use Rattle.labels.specs.Labels.{label}
 use Rattle.book.specs.declared.Fault.TheVariants.{Nowhere}
 use Rattle.book.specs.declared.Refusal.TheVariants.{Passed, Refused}
-use Rattle.book.specs.Control.{if◌then◌else◌}
+use Rattle.book.specs.Control.{when◌then◌else◌}
 use Rattle.book.specs.Kinds.{limits}
 use Rattle.book.specs.Records.{byte_at, records, in_group}
 use Rattle.book.specs.Book.{group_of, blocks_of, block_at, parse}
@@ -65,7 +65,7 @@ unfolding found_in parse block_at
 bound_before s e = simp e (go (blocks_of s) (omega (arith, (sound s e).some_block, length-map (blocks_of s) (block_at s))))
   where
     go : (os : List ℕ) → 0 < length os
-        → byte_at s ((if ltb 0 (length os) then record { refusal = Passed; start = start_at (get_or os 0 0); length = length_at s (get_or os 0 0) } else lost 12 0).start - 1)
+        → byte_at s ((when ltb 0 (length os) then record { refusal = Passed; start = start_at (get_or os 0 0); length = length_at s (get_or os 0 0) } else lost 12 0).start - 1)
         ≡ (get_or (map (block_at s) os) 0 no_block).bound.0
     go [] h = absurd (omega arith)
     go (o ∷ os) h = let q : o + 2 - 1 ≡ o + 1 = omega arith in simp (lt-ltb 0 (length (o ∷ os)) h) (ap (byte_at s) q)

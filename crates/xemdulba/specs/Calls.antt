@@ -13,7 +13,7 @@ use Rattle.book.specs.declared.Refusal.{Refusal}
 use Rattle.book.specs.declared.Refusal.TheVariants.{Passed}
 use Rattle.book.specs.declared.Refusal.TheVariants as R
 use Rattle.book.specs.declared.Found.{Found}
-use Rattle.book.specs.Control.{if◌then◌else◌}
+use Rattle.book.specs.Control.{when◌then◌else◌}
 use Rattle.typing.specs.declared.Verdict.{Verdict}
 use Rattle.typing.specs.declared.Verdict.TheVariants.{Accepted, Refused}
 use Rattle.machine.specs.declared.Launch.{Launch}
@@ -105,7 +105,7 @@ abbrev pub default_launch : ℕ
 default_launch = 4294967295
 
 unfoldable pub launch_of : ℕ → Launch
-launch_of n = if eqb n default_launch then Default else Given (label_of n)
+launch_of n = when eqb n default_launch then Default else Given (label_of n)
 
 -- 0 stands for a book that is written
 unfoldable pub written_by : Refusal → ℕ → Written
