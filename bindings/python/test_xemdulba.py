@@ -684,7 +684,7 @@ class Words(unittest.TestCase):
     def test_the_version_is_the_headers(self):
         self.assertIn(f'\n#define XEMDULBA_VERSION "{xemdulba.__version__}"\n', HEADER)
 
-    def test_the_numbers_are_the_headers(self):
+    def test_the_sizes_of_a_writing_are_the_headers(self):
         sizes = {
             "REQUEST": 6,
             "MOST_TURNS": xemdulba.MOST_TURNS,

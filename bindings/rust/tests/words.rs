@@ -62,7 +62,7 @@ fn the_version_is_the_headers() {
 }
 
 #[test]
-fn the_numbers_are_the_headers() {
+fn the_sizes_of_a_writing_are_the_headers() {
     for (name, size) in [
         ("REQUEST", 6),
         ("MOST_TURNS", MOST_TURNS as usize),

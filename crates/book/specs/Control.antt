@@ -1,5 +1,5 @@
 -- Tests, and what tests pick from a list.
---     when_then_else_, both, either     cases on tests
+--     when◌then◌else◌, both, either     cases on tests
 --     on_some                          on what may be missing
 --     those, while                    the members that pass; those before the first that does not
 --     sweep, first                    the first member at fault

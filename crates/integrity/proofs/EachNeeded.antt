@@ -299,7 +299,7 @@ each_needed =
             -- Job 0 makes a cell of trust 9.
             new_label = needed_there (book (plain ∷ cell 0 9 ∷ block 12 ∷ lower_to 12 ∷ new 0 1 0 ∷ [])) (steps 2 0 []) 2 0 1 2 refl refl;
             -- Job 0, at 12, lowers to 5.
-            lower_to_lem = needed_there (book (block 12 ∷ lower_to 5 ∷ [])) (steps 1 0 []) 0 0 1 1 refl refl;
+            lower_to = needed_there (book (block 12 ∷ lower_to 5 ∷ [])) (steps 1 0 []) 0 0 1 1 refl refl;
             -- An outsider at 3 starts block 0: a job at 15 whose history has 3.
             start_label = needed_there (book (block 12 ∷ [])) (StartBy (label 3) 0 ∷ []) 0 0 1 0 refl refl;
             -- An outsider starts block 0 at 3, and its lower takes the job to 12.

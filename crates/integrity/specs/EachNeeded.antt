@@ -82,7 +82,7 @@ pub record MachineNeeded : Type 0 where
   pub relabel_old : NeededThere "relabel: old label at most the job's"
   pub relabel_new : NeededThere "relabel: new label at most the job's"
   pub new_label : NeededThere "new: with the job's label"
-  pub lower_to_lem : NeededThere "lower: the label is Q"
+  pub lower_to : NeededThere "lower: the label is Q"
   pub start_label : NeededThere "start: at this label"
   pub lower_label : NeededThere "lower: Q is above the job's label"
   pub exec_lower : NeededThere "exec: the lower of the two labels"

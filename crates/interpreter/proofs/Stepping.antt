@@ -29,7 +29,8 @@ use Rattle.acts.specs.declared.StoredJob.{StoredJob}
 use Rattle.acts.specs.declared.Stored.{Stored}
 use Rattle.acts.specs.declared.Act.{Act}
 use Rattle.acts.specs.declared.Act.TheVariants.{Blocked, Give, Lower, Store, Create, Launch}
-use Rattle.acts.specs.Views.{value_in, stored_of, job_of, nearby, effect_of, job_after, answer_of, lowered, clamped, give_sort, lower_sort, store_sort, create_sort, launch_sort, sort_of, Only, waits, acts}
+use Rattle.acts.specs.Views.{value_in, stored_of, job_of, nearby, effect_of, job_after, answer_of, lowered, clamped, sort_of, Only, waits, acts}
+use Rattle.acts.specs.Views.{give_sort, lower_sort, store_sort, create_sort, launch_sort}
 use Rattle.turns.specs.Turns.{target_in, reached_in, Takes, Gives, Changes, Launches}
 use Rattle.turns.proofs.Targets.{target_number}
 use Rattle.interpreter.proofs.Nearby.{Allowed, store_inside, create_room, launch_room}

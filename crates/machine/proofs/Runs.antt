@@ -17,7 +17,8 @@ use Rattle.machine.specs.Samples.{SampleRuns, HistoryRun, TopSums, LaunchRuns, C
 
 pub sample_runs : SampleRuns
 unfolding lower both either those while span limits group number_at cut_by offsets_in offsets_by group_of steps_from shape_at value_of declared_at step_at block_at parse value_named
-    on_some given on_plain on_cell on_code exec_label write_act relabel_act new_act start_act exec_act summable add_step read_step lower_step turn_of launched_at landed turn_landed outcome_of state_after answers
+    on_some given on_plain on_cell on_code exec_label write_act relabel_act new_act start_act exec_act summable add_step read_step lower_step
+    turn_of launched_at landed turn_landed outcome_of state_after answers
 sample_runs =
     record {
       high_answers = refl;
@@ -30,11 +31,13 @@ sample_runs =
 
 pub history_run : HistoryRun
 unfolding lower both either those while span limits group number_at cut_by offsets_in offsets_by group_of steps_from shape_at value_of declared_at step_at block_at parse value_named
-    on_some given on_plain on_cell on_code exec_label write_act relabel_act new_act start_act exec_act summable add_step read_step lower_step turn_of launched_at landed turn_landed outcome_of state_after answers
+    on_some given on_plain on_cell on_code exec_label write_act relabel_act new_act start_act exec_act summable add_step read_step lower_step
+    turn_of launched_at landed turn_landed outcome_of state_after answers
 history_run = record { cells = refl; jobs = refl }
 
 pub top_sums : TopSums
-unfolding on_some given on_plain summable add_step turn_of launched_at landed turn_landed outcome_of state_after answers
+unfolding on_some given on_plain summable add_step
+    turn_of launched_at landed turn_landed outcome_of state_after answers
 top_sums =
     record {
       top_and_one = record { answered = refl; state = refl };
@@ -46,12 +49,14 @@ top_sums =
 
 pub launch_runs : LaunchRuns
 unfolding lower both either those while span limits group number_at cut_by offsets_in offsets_by group_of steps_from shape_at value_of declared_at step_at block_at parse value_named
-    on_some given on_plain on_cell on_code exec_label write_act relabel_act new_act start_act exec_act summable add_step read_step lower_step turn_of launched_at landed turn_landed outcome_of state_after answers
+    on_some given on_plain on_cell on_code exec_label write_act relabel_act new_act start_act exec_act summable add_step read_step lower_step
+    turn_of launched_at landed turn_landed outcome_of state_after answers
 launch_runs = record { low_answers = refl; low_job = refl; given_answers = refl; given_job = refl; bounds = refl; defaults = refl }
 
 pub choose_runs : ChooseRuns
 unfolding lower both either those while span limits group number_at cut_by offsets_in offsets_by group_of steps_from shape_at value_of declared_at step_at block_at parse value_named
-    on_some given on_plain on_cell on_code exec_label write_act relabel_act new_act start_act exec_act summable chosen add_step read_step lower_step turn_of launched_at landed turn_landed outcome_of state_after answers
+    on_some given on_plain on_cell on_code exec_label write_act relabel_act new_act start_act exec_act summable chosen add_step read_step lower_step
+    turn_of launched_at landed turn_landed outcome_of state_after answers
 choose_runs =
     record {
       one = record { answered = refl; jobs = refl };

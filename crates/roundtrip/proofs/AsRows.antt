@@ -22,7 +22,8 @@ use Rattle.book.proofs.Tests.{either_left, either_right}
 use Rattle.book.proofs.Digits.{digits}
 use Rattle.book.proofs.Groups.{is_c, is_shape, is_cell, is_block, is_step}
 use Rattle.book.proofs.Part.{up}
-use Rattle.book.proofs.Decoded.{is_code_shape_lem, is_cell_shape_lem, is_plain_shape_lem, is_put, is_name, is_code, is_add, is_new, is_read, is_write, is_relabel, is_lower, is_start, is_exec, choose_past}
+use Rattle.book.proofs.Decoded.{is_code_shape_lem, is_cell_shape_lem, is_plain_shape_lem}
+use Rattle.book.proofs.Decoded.{is_put, is_name, is_code, is_add, is_new, is_read, is_write, is_relabel, is_lower, is_start, is_exec, choose_past}
 use Rattle.rows.specs.Rows.{Row, row_of, some_nonzero, c_row, shape_row, cell_row, block_row, step_row}
 use Rattle.rows.specs.Parsed.{shape_row_of, cell_row_of, block_row_of, step_row_of}
 use Rattle.roundtrip.proofs.RecordRows.{row_at, bytes_from, bytes_are}

@@ -1,6 +1,6 @@
 -- Reading what the writer wrote gives its tables back.
 --     shapes_back, cells_back, .., tables_back     each table, and all of them, of the bytes of tables that are writable
---     read-back                                    ReadBack
+--     read_back                                    ReadBack
 -- Assumes nothing.
 use mathlib.Core.Path.{◌≡◌, refl, ap, ◌∙◌}
 use mathlib.Core.List.{List, [], ◌∷◌, ◌++◌, map, append-nil, Memᴰ}

@@ -19,13 +19,13 @@ unfolding both either those while sweep on_some span limits group cut_by offsets
     first_row earlier unwritable written_of
 writer_samples =
     record {
-      book_a_lem = refl;
+      of_book_a = refl;
       read_again = refl;
       too_short = refl;
       one_missing = refl;
       one_over = refl;
       counts_first = refl;
-      no_shape_lem = refl;
+      no_shape = refl;
       one_byte = refl;
       no_block = refl;
       spare_field = refl;

@@ -27,7 +27,7 @@ small c shapes = tables_in (label c) shapes [] (12 ∷ 0 ∷ 0 ∷ 0 ∷ 0 ∷ [
 
 pub record WriterSamples : Type 0 where
   -- book A, with two bytes behind it that are kept; and read again
-  pub book_a_lem : written tables_of_a (replicate 30 165) ≡ record { refusal = Passed; length = 28; out = bytes_of_a ++ (165 ∷ 165 ∷ []) }
+  pub of_book_a : written tables_of_a (replicate 30 165) ≡ record { refusal = Passed; length = 28; out = bytes_of_a ++ (165 ∷ 165 ∷ []) }
   pub read_again : tables_of (parse bytes_of_a) ≡ tables_of_a
   -- "13, after 6, when the output buffer is too short"
   pub too_short : written tables_of_a (replicate 27 165) ≡ record { refusal = Refused 13 0; length = 0; out = replicate 27 165 }
@@ -36,7 +36,7 @@ pub record WriterSamples : Type 0 where
   pub one_over : unwritable (tables_in (label 3) [] [] (12 ∷ 0 ∷ 0 ∷ 0 ∷ 0 ∷ []) (72 ∷ 3 ∷ 0 ∷ 0 ∷ 0 ∷ 0 ∷ 0 ∷ 0 ∷ [])) 100 ≡ Refused 2 0
   pub counts_first : unwritable (tables_in (label 3) (64 ∷ 0 ∷ 0 ∷ []) [] (12 ∷ 1 ∷ 0 ∷ 0 ∷ 0 ∷ []) []) 100 ≡ Refused 2 0
   -- "A shape row whose kind is no shape kind .. gets refusal 2 at its place and counts as one byte of length"
-  pub no_shape_lem : unwritable (small 3 (16 ∷ 0 ∷ 0 ∷ 64 ∷ 0 ∷ 0 ∷ [])) 100 ≡ Refused 2 3
+  pub no_shape : unwritable (small 3 (16 ∷ 0 ∷ 0 ∷ 64 ∷ 0 ∷ 0 ∷ [])) 100 ≡ Refused 2 3
   pub one_byte : unwritable (tables_in (label 3) [] [] (12 ∷ 2 ∷ 0 ∷ 0 ∷ 0 ∷ []) (64 ∷ 0 ∷ 0 ∷ 0 ∷ 0 ∷ 0 ∷ 0 ∷ 0 ∷ 32 ∷ 0 ∷ 0 ∷ 0 ∷ 0 ∷ 0 ∷ 0 ∷ 0 ∷ [])) 100
       ≡ Refused 2 10
   -- no block stands: 3 at the length

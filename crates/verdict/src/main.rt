@@ -1,5 +1,5 @@
 // Reads a book on standard input and prints its verdict. Where the input cannot be read, standard error has the reason, and standard output
-// nothing. One byte more than the limit is enough to refuse a longer book.
+// nothing. One byte more than the limit is enough to refuse a longer book; what cannot be read up to the byte behind that one is no book.
 #![tactic(auto)]
 
 mod words;
@@ -7,7 +7,7 @@ mod words;
 use std::io;
 use std::io::Read;
 
-const MOST: u64 = 32769;
+const MOST: u64 = 32770;
 
 fn main(rt: HostRuntime) -> io::Result<()> {
     let mut book = Vec::new(rt.alloc());

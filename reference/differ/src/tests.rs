@@ -153,7 +153,7 @@ fn the_test_books_are_written_again() {
 }
 
 #[test]
-fn different_ones_of_the_tests_are_written_out() {
+fn a_different_test_book_and_run_are_written_out() {
     assert_eq!(lines(chosen::books(verified_checks, stern)).len(), 4);
     assert_eq!(
         lines(chosen::runs(verified::run_exported, forgetful)).len(),

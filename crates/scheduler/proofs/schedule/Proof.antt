@@ -282,7 +282,11 @@ schedule_spec =
     round_falls s.of.w s.of.h)
     (λ c.
     let s = stepping c.before.before.before.before.before.before.before.before.before.before.before.before.before in
-    goes_on s (step_launch s.known _ _ refl _ _ c.launch-x.ensures _ _ _ _ c.in-Launch.is c.moved-t-in-Launch.ensures _ _ c.start_of-opens.ensures c.fresh-child.ensures) (launches s _ _ c.moved-t-in-Launch.ensures.1 c.pend-p-in-Launch.ensures _ _ _ c.fresh-child.ensures.1 c.pend-c.ensures (step_free s.known _ _ refl _ _ c.launch-x.ensures _ _ _ c.in-Launch.is)))
+    goes_on s
+    (step_launch s.known _ _ refl _ _ c.launch-x.ensures _ _ _ _ c.in-Launch.is c.moved-t-in-Launch.ensures _ _ c.start_of-opens.ensures
+    c.fresh-child.ensures)
+    (launches s _ _ c.moved-t-in-Launch.ensures.1 c.pend-p-in-Launch.ensures _ _ _ c.fresh-child.ensures.1 c.pend-c.ensures
+    (step_free s.known _ _ refl _ _ c.launch-x.ensures _ _ _ c.in-Launch.is)))
     -- blocked
     (λ c. let s = stepping c.before.before.before.before.before.before.before.before in let f = round_fits s.of.w s.of.h in search rules)
     (λ c. let s = stepping c.before.before.before.before.before.before.before.before in round_falls s.of.w s.of.h)
