@@ -135,7 +135,8 @@ pub fn play(
         } else {
             let e = events::event_at(list, o);
             o = events::next_event(list, o);
-            if outsiders::is_such(c, shapes, starts.len(), n, e) {
+            let such = outsiders::is_such(c, shapes, starts.len(), n, e);
+            if such {
                 let k = outsiders::aimed_at(e);
                 let q = acts::clamp(k);
                 let cell = held[q];

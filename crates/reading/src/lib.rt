@@ -10,6 +10,9 @@ ghost use Rattle.book.specs.Stretch.{found_block, stretch};
 
 use book::{Fault, Found, Reading, Refusal};
 
+// The bytes of the longest book that can be read.
+const LONGEST: usize = 32768;
+
 // Reads a book that refusals 1 to 5 do not hold of: refused by 6, or its outline.
 fn read_clear(book: &[u8]) -> Reading
     requires { (length book.now ≤ 32768) × Clear book.now }
@@ -29,7 +32,7 @@ fn read_clear(book: &[u8]) -> Reading
 pub fn read(book: &[u8]) -> Reading
     ensures { result ≡ reading book.now }
 {
-    if 32768 < book.len() {
+    if LONGEST < book.len() {
         return Reading::refused(1, 0);
     }
     if !screening::is_clear(book) {

@@ -322,7 +322,7 @@ play_spec =
     let l = c in
     playing_none l.loop-o.invariant l.loop-o-test.true _ c.next_event-o.ensures
     c.if-kind-eq-STEP.false _ c.event_at-e.ensures _
-    c.is_such.ensures c.if-is_such.false)
+    c.is_such-such.ensures c.if-such.false)
     -- the tables are saved
     (λ c κs. playing_sized c.loop-o.invariant)
     (λ c.

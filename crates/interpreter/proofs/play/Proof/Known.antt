@@ -77,7 +77,7 @@ stepping p =
 
 -- what is known where an outsider's cell was looked up
 abbrev pub Aimed : Type 0
-Aimed = tie.After-cell-then-is_such-1 InvLoop μ_loop InvLoop2 μ_loop2
+Aimed = tie.After-cell-then-such-1 InvLoop μ_loop InvLoop2 μ_loop2
 
 abbrev pub acting : Aimed → SomeAct
 acting p =
@@ -112,9 +112,9 @@ acting p =
         ep = such.next_event-o.ensures;
         here = begun.if-kind-eq-STEP.false;
         ee = such.event_at-e.ensures;
-        ef = such.is_such.ensures;
-        t = such.if-is_such.true;
+        ef = such.is_such-such.ensures;
+        t = such.if-such.true;
         ek = p.aimed_at-k.ensures;
-        eq = p.clamp-q-then-is_such.ensures.0;
+        eq = p.clamp-q-then-such.ensures.0;
       };
     }
