@@ -4,13 +4,28 @@
 
 mod words;
 
+ghost use Rattle.std.specs.Prelude.{◌≤◌, IfOk, length};
+
 use std::io;
 use std::io::Read;
 
-const MOST: u64 = 32770;
+// Fills the space as far as the input goes, and gives the number of its bytes.
+fn fill<R: Read>(input: &mut R, space: &mut [u8]) -> io::Result<usize>
+    ensures { IfOk result (λ n. n ≤ length space.new) }
+{
+    let mut n: usize = 0;
+    while n < space.len() {
+        let more = input.read(&mut space[n..])?;
+        if more == 0 {
+            return Ok(n);
+        }
+        n = n + more;
+    }
+    Ok(n)
+}
 
 fn main(rt: HostRuntime) -> io::Result<()> {
-    let mut book = Vec::new(rt.alloc());
-    rt.stdin().take(MOST).read_to_end(&mut book)?;
-    words::answer(&rt, checking::check(&book))
+    let mut space = [0u8; 32770];
+    let n = fill(&mut rt.stdin(), &mut space)?;
+    words::answer(&rt, checking::check(&space[..n]))
 }
