@@ -1,1 +1,2 @@
 pub mod Impossible
+pub mod Orders

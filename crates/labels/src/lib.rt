@@ -6,11 +6,11 @@ ghost use Rattle.std.specs.Prelude.{◌≡◌};
 ghost use Rattle.labels.specs.Labels.{lower, reaches, is_above, is_met, is_high, covers, normal, capped};
 
 // A label: 0 to 15, higher is more trusted. Labels of cells and jobs, bounds, C and the members of histories.
-#[derive(Clone, Copy)]
+#[derive(Clone, Copy, PartialEq, Eq, PartialOrd, Ord)]
 pub struct Label(pub u8);
 
 // The trust of a cell: fixed by its shape.
-#[derive(Clone, Copy)]
+#[derive(Clone, Copy, PartialEq, Eq, PartialOrd, Ord)]
 pub struct Trust(pub u8);
 
 impl Label {
@@ -18,27 +18,25 @@ impl Label {
     pub const TOP: Label = Label(15);
 
     // The lower of two labels. No label is above 15; the contract holds of any two bytes, so that no caller has to show what it holds.
+    #[tactic(auto, using(crate::proofs::Orders::lower_min))]
     pub fn lower_of(self, other: Label) -> Label
         ensures { result ≡ lower self other }
     {
-        if other.0 < self.0 {
-            return other;
-        }
-        self
+        self.min(other)
     }
 
     // This label is at least the other.
     pub fn reaches(self, other: Label) -> bool
         ensures { result ≡ reaches self other }
     {
-        other.0 <= self.0
+        self >= other
     }
 
     // This label is above the other.
     pub fn is_above(self, other: Label) -> bool
         ensures { result ≡ is_above self other }
     {
-        other.0 < self.0
+        self > other
     }
 }
 
@@ -68,20 +66,14 @@ impl Trust {
     pub fn normal(self, c: Label) -> Trust
         ensures { result ≡ normal c self }
     {
-        if self.is_high(c) {
-            return self;
-        }
-        Trust(0)
+        if self.is_high(c) { self } else { Trust(0) }
     }
 
     // The smaller of this trust and a label, as an effect.
+    #[tactic(auto, using(crate::proofs::Orders::capped_min))]
     pub fn capped(self, label: Label) -> Label
         ensures { result ≡ capped self label }
     {
-        let trust = self.0;
-        if trust <= label.0 {
-            return Label(trust);
-        }
-        label
+        Label(self.0).min(label)
     }
 }
