@@ -13,7 +13,7 @@ use lib.Dec.{ltb}
 use lib.ListN.{length, get_or, take, drop, replicate}
 use borrow.Author.Tests.{lt-ltb, le-ltb, ltb-true, ltb-false, eqb-true}
 use Rattle.labels.proofs.Impossible.{impossible}
-use Rattle.book.specs.declared.Fault.TheVariants.{Nowhere}
+use Rattle.std.specs.Prelude.{None}
 use Rattle.book.specs.declared.Refusal.{Refusal}
 use Rattle.book.specs.declared.Refusal.TheVariants.{Passed, Refused}
 use Rattle.book.specs.declared.Outline.{Outline}
@@ -64,7 +64,7 @@ module _ (s : List ℕ) (g : ℕ) where
           let x : o ∷ os ≡ a ∷ records_from s (next s a) = sym e ∙ k.list in
           simp (those, q) (r (cc) k.rest i (simp (those, q) at h))
 
-  pub stands : cut_fault s ≡ Nowhere → (i : ℕ) → i < length (group_of s g) → Stands s g (get_or (group_of s g) i 0)
+  pub stands : cut_fault s ≡ None → (i : ℕ) → i < length (group_of s g) → Stands s g (get_or (group_of s g) i 0)
   unfolding cut_fault group_of
   stands w i h = all_stand (records s) 0 refl w i h
 

@@ -17,8 +17,8 @@ use lib.Dec.{ltb, eqb}
 use lib.ListN.{length}
 use borrow.Author.Tests.{ltb-true, ltb-false}
 use Rattle.labels.proofs.Impossible.{impossible}
-use Rattle.book.specs.declared.Fault.{Fault}
-use Rattle.book.specs.declared.Fault.TheVariants.{Nowhere, At}
+use Rattle.book.specs.Missing.{Fault}
+use Rattle.std.specs.Prelude.{None, Some}
 use Rattle.book.specs.declared.Refusal.{Refusal}
 use Rattle.book.specs.declared.Refusal.TheVariants.{Passed, Refused}
 use Rattle.book.specs.declared.Found.{Found}
@@ -40,12 +40,12 @@ pub data Below (l : ℕ) : List ℕ → Type 0 where
 
 -- a fault is at most at l
 abbrev pub PlacedIn : ℕ → Fault → Type 0
-PlacedIn l f = (o : ℕ) → f ≡ At o → o ≤ l
+PlacedIn l f = (o : ℕ) → f ≡ Some o → o ≤ l
 
-pub nowhere_placed : (l : ℕ) → PlacedIn l Nowhere
+pub nowhere_placed : (l : ℕ) → PlacedIn l None
 nowhere_placed l o e = impossible cc
 
-pub at_placed : (l p : ℕ) → p ≤ l → PlacedIn l (At p)
+pub at_placed : (l p : ℕ) → p ≤ l → PlacedIn l (Some p)
 at_placed l p h o e = let z : p ≡ o = cc in omega arith
 
 module _ (f : ℕ → Bool) (l : ℕ) where
@@ -88,8 +88,8 @@ module _ {S : Type 0} (bad : S → ℕ → Bool) (on : S → ℕ → S) (end : S
 
 -- a stage whose end is never at fault
 pub sweep_clean : {S : Type 0} (bad : S → ℕ → Bool) (on : S → ℕ → S) (l : ℕ) {os : List ℕ} → Below l os → (t : S)
-    → PlacedIn l (sweep bad on (λ u. Nowhere) t os)
-sweep_clean bad on l r t = sweep_placed bad on (λ u. Nowhere) l (λ u. nowhere_placed l) r t
+    → PlacedIn l (sweep bad on (λ u. None) t os)
+sweep_clean bad on l r t = sweep_placed bad on (λ u. None) l (λ u. nowhere_placed l) r t
 
 -- of records by any span
 module _ (span : ℕ → ℕ) (s : List ℕ) where
@@ -150,8 +150,8 @@ module _ (s : List ℕ) where
 -- a refusal is at most at l
 pub stage : (l m : ℕ) (f : Fault) (r : Refusal) → PlacedIn l f → ((n o : ℕ) → r ≡ Refused n o → o ≤ l) → (n o : ℕ) → or_refuse m f r ≡ Refused n o → o ≤ l
 unfolding or_refuse
-stage l m Nowhere r p q n o e = q n o e
-stage l m (At k) r p q n o e = let z : k ≡ o = cc in let h = p k refl in omega arith
+stage l m None r p q n o e = q n o e
+stage l m (Some k) r p q n o e = let z : k ≡ o = cc in let h = p k refl in omega arith
 
 pub none_refused : (l n o : ℕ) → Passed ≡ Refused n o → o ≤ l
 none_refused l n o e = impossible cc
@@ -166,7 +166,7 @@ module _ (s : List ℕ) where
   unfolding order_fault misplaced
   order_placed = sweep_placed _ _ _ (length s) (λ p. ends (eqb p 4)) (records_below s 0) 0
     where
-      ends : (b : Bool) → PlacedIn (length s) (when b then Nowhere else At (length s))
+      ends : (b : Bool) → PlacedIn (length s) (when b then None else Some (length s))
       ends true = nowhere_placed (length s)
       ends false = at_placed (length s) (length s) (omega arith)
 

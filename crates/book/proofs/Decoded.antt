@@ -18,14 +18,14 @@ use Rattle.book.specs.declared.Value.TheVariants.{Plain, CellName, CodeName}
 use Rattle.book.specs.declared.Declared.{Declared}
 use Rattle.book.specs.declared.Step.{Step}
 use Rattle.book.specs.declared.Step.TheVariants.{Put, Name, Code, Add, New, Read, Write, Relabel, Lower, Start, Exec, Choose}
-use Rattle.book.specs.declared.StepAt.{StepAt}
-use Rattle.book.specs.declared.StepAt.TheVariants.{NoStep, StepThere}
-use Rattle.book.specs.declared.CellAt.TheVariants.{NoCell, CellThere}
+use Rattle.book.specs.Missing.{StepAt}
+use Rattle.std.specs.Prelude.{None, Some}
 use Rattle.book.specs.Control.{both}
 use Rattle.book.specs.Kinds.{span, group}
 use Rattle.book.specs.Records.{byte_at, number_at, next, cut, in_group}
 use Rattle.book.specs.Book.{shape_at, value_of, number_of, declared_at, step_at}
 use Rattle.book.specs.Stretch.{stands, step_found, step_end, cell_found}
+use Rattle.book.proofs.Pairs.{same_found, none_found}
 use Rattle.book.proofs.Groups.{is_step, group_span}
 use Rattle.book.proofs.Spans.{cut_body, uncut, uncut_span, uncut_inside}
 
@@ -192,28 +192,28 @@ module _ (s : List ℕ) (o : ℕ) where
   unfolding step_end
   no_end e = simp e
 
-  no_cell : stands s 3 o ≡ false → NoCell ≡ cell_found s o
+  no_cell : stands s 3 o ≡ false → None ≡ cell_found s o
   unfolding cell_found
   no_cell e = simp e
 
   pub end_past : length s ≤ o → 0 ≡ step_end s o
   end_past h = no_end (stands_past s 5 o h)
 
-  pub cell_past : length s ≤ o → NoCell ≡ cell_found s o
+  pub cell_past : length s ≤ o → None ≡ cell_found s o
   cell_past h = no_cell (stands_past s 3 o h)
 
   module _ (d : ℕ) (h : o < length s) (ed : d ≡ group (byte_at s o)) where
     pub end_other : (d ≡ 5 → ⊥) → 0 ≡ step_end s o
     end_other n = no_end (stands_other s 5 o d h ed n)
 
-    pub cell_other : (d ≡ 3 → ⊥) → NoCell ≡ cell_found s o
+    pub cell_other : (d ≡ 3 → ⊥) → None ≡ cell_found s o
     cell_other n = no_cell (stands_other s 3 o d h ed n)
 
     module _ (p : ℕ) (q : p ≡ next s o) where
       pub end_short : d ≡ 5 → length s < p → 0 ≡ step_end s o
       end_short e l = no_end (stands_short s 5 o d h ed p e q l)
 
-      pub cell_short : d ≡ 3 → length s < p → NoCell ≡ cell_found s o
+      pub cell_short : d ≡ 3 → length s < p → None ≡ cell_found s o
       cell_short e l = no_cell (stands_short s 3 o d h ed p e q l)
 
       module _ (l : p ≤ length s) where
@@ -221,25 +221,25 @@ module _ (s : List ℕ) (o : ℕ) where
         unfolding step_end
         end_there e = simp (stands_whole s 5 o d h ed p e q (omega arith) l, q)
 
-        pub cell_there : (x : Declared) → d ≡ 3 → x ≡ declared_at s o → CellThere x ≡ cell_found s o
+        pub cell_there : (x : Declared) → d ≡ 3 → x ≡ declared_at s o → Some x ≡ cell_found s o
         unfolding cell_found
         cell_there x e ex = simp (stands_whole s 3 o d h ed p e q (omega arith) l, ex)
 
 -- a step stands where its end is not 0
 module _ (s : List ℕ) (o e : ℕ) (q : e ≡ step_end s o) where
-  pub step_none : e ≡ 0 → NoStep ≡ step_found s o
+  pub step_none : e ≡ 0 → None ≡ step_found s o
   unfolding step_found step_end both
   step_none z = go (stands s 5 o) refl
     where
-      go : (t : Bool) → stands s 5 o ≡ t → NoStep ≡ step_found s o
+      go : (t : Bool) → stands s 5 o ≡ t → None ≡ step_found s o
       go true h = absurd (omega (arith, (simp h at q), stood_span s o h))
       go false h = simp h
 
-  pub step_some : (e ≡ 0 → ⊥) → (p : Step) → p ≡ step_at s o → StepThere p e ≡ step_found s o
+  pub step_some : (e ≡ 0 → ⊥) → (p : Step) → p ≡ step_at s o → Some (p, e) ≡ step_found s o
   unfolding step_found step_end
   step_some z p ep = go (stands s 5 o) refl
     where
-      go : (t : Bool) → stands s 5 o ≡ t → StepThere p e ≡ step_found s o
+      go : (t : Bool) → stands s 5 o ≡ t → Some (p, e) ≡ step_found s o
       go true h = let n : e ≡ next s o = simp h at q in simp (h, ep, n)
       go false h = let n : e ≡ 0 = simp h at q in absurd (z n)
 
@@ -264,20 +264,19 @@ module _ (s : List ℕ) (o e : ℕ) (q : e ≡ step_end s o) where
 pub ruleset found = (end_past, cell_past, end_other, cell_other, end_short, cell_short, end_there, cell_there, step_none, step_some, step_inside)
 
 -- the offset past a step that was found
-found_next : (s : List ℕ) (o n : ℕ) (p : Step) (x : StepAt) → x ≡ step_found s o → x ≡ StepThere p n → (o < n) × (n ≤ length s)
+found_next : (s : List ℕ) (o n : ℕ) (p : Step) (x : StepAt) → x ≡ step_found s o → x ≡ Some (p, n) → (o < n) × (n ≤ length s)
 unfolding step_found both
 found_next s o n p x ex e = go (ltb o (length s)) refl (in_group s 5 o) refl (cut s o) refl
   where
     go : (a : Bool) → ltb o (length s) ≡ a → (b : Bool) → in_group s 5 o ≡ b → (c : Bool) → cut s o ≡ c → (o < n) × (n ≤ length s)
     go true h true g false q =
-        let y : StepThere (step_at s o) (next s o) ≡ StepThere p n = sym (simp (h, g, q) at ex) ∙ e in
-        let z : next s o ≡ n = cc in
+        let z : next s o ≡ n = (same_found (sym (simp (h, g, q) at ex) ∙ e)).1 in
         (omega (arith, uncut_span span s o q), omega (arith, uncut_inside span s o q))
-    go true h true g true q = let y : NoStep ≡ StepThere p n = sym (simp (h, g, q) at ex) ∙ e in impossible cc
-    go true h false g c q = let y : NoStep ≡ StepThere p n = sym (simp (h, g) at ex) ∙ e in impossible cc
-    go false h b g c q = let y : NoStep ≡ StepThere p n = sym (simp h at ex) ∙ e in impossible cc
+    go true h true g true q = none_found (sym (simp (h, g, q) at ex) ∙ e)
+    go true h false g c q = none_found (sym (simp (h, g) at ex) ∙ e)
+    go false h b g c q = none_found (sym (simp h at ex) ∙ e)
 
-module _ (s : List ℕ) (o n : ℕ) (p : Step) (x : StepAt) (ex : x ≡ step_found s o) (e : x ≡ StepThere p n) where
+module _ (s : List ℕ) (o n : ℕ) (p : Step) (x : StepAt) (ex : x ≡ step_found s o) (e : x ≡ Some (p, n)) where
   pub found_inside : n ≤ length s
   found_inside = (found_next s o n p x ex e).1
 

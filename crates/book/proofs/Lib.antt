@@ -28,3 +28,4 @@ pub mod Blocks
 pub mod Stretches
 pub mod Outlines
 pub mod Bounds
+pub mod Pairs

@@ -9,7 +9,7 @@ use lib.Dec.{eqb}
 use lib.ListN.{length}
 use borrow.Author.Tests.{eqb-true}
 use Rattle.labels.proofs.Impossible.{impossible}
-use Rattle.book.specs.declared.Fault.TheVariants.{Nowhere, At}
+use Rattle.std.specs.Prelude.{None, Some}
 use Rattle.book.specs.declared.Tally.{Tally}
 use Rattle.book.specs.Control.{when◌then◌else◌, those, sweep}
 use Rattle.book.specs.Kinds.{group}
@@ -57,15 +57,15 @@ module _ (s : List ℕ) where
     pub cells : n.cells + length (those (in_group s 3) os) ≤ 32
     pub blocks : n.blocks + length (those (in_group s 4) os) ≤ 64
 
-  within : (os : List ℕ) (n : Tally) → too_many n ≡ false → beyond s n os ≡ Nowhere → Within n os
+  within : (os : List ℕ) (n : Tally) → too_many n ≡ false → beyond s n os ≡ None → Within n os
   unfolding beyond sweep those
   within [] n m e = record { shapes = omega (arith, few_shapes_lem n m); cells = omega (arith, few_cells_lem n m); blocks = omega (arith, few_blocks_lem n m) }
   within (o ∷ os) n m e = go (too_many (counted n (group (byte_at s o)))) refl (within os (counted n (group (byte_at s o))))
     where
       go : (b : Bool) → too_many (counted n (group (byte_at s o))) ≡ b
-          → (too_many (counted n (group (byte_at s o))) ≡ false → beyond s (counted n (group (byte_at s o))) os ≡ Nowhere → Within (counted n (group (byte_at s o))) os)
+          → (too_many (counted n (group (byte_at s o))) ≡ false → beyond s (counted n (group (byte_at s o))) os ≡ None → Within (counted n (group (byte_at s o))) os)
           → Within n (o ∷ os)
-      go true q r = let x : At o ≡ Nowhere = simp (sweep, q) at e in impossible cc
+      go true q r = let x : Some o ≡ None = simp (sweep, q) at e in impossible cc
       go false q r =
           let x = r q (simp (sweep, q) at e) in
           let c = counts n (group (byte_at s o)) in
@@ -75,7 +75,7 @@ module _ (s : List ℕ) where
             blocks = rw (one_more 4 o os n.blocks _ c.2) at x.blocks;
           }
 
-  module _ (h : count_fault s ≡ Nowhere) where
+  module _ (h : count_fault s ≡ None) where
     all : Within no_tally (records s)
     unfolding count_fault
     all = within (records s) no_tally none_few h

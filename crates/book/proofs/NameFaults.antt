@@ -10,8 +10,8 @@ use Prim.Native.Nat.{ℕ, ◌+◌, ◌-◌, ◌≤◌, ◌<◌}
 use lib.Dec.{leb, ltb, eqb}
 use lib.ListN.{length, length-map}
 use borrow.Author.Tests.{eq-eqb, ne_eqb, lt-ltb, le-ltb}
-use Rattle.book.specs.declared.Fault.{Fault}
-use Rattle.book.specs.declared.Fault.TheVariants.{Nowhere, At}
+use Rattle.book.specs.Missing.{Fault}
+use Rattle.std.specs.Prelude.{None, Some}
 use Rattle.book.specs.declared.Outline.{Outline}
 use Rattle.book.specs.declared.Shape.{Shape}
 use Rattle.book.specs.declared.Value.{Value}
@@ -112,12 +112,12 @@ module _ (s : List ℕ) (t : Outline) (u : Outlined s t) where
       rw (es, x, y, z) refl
 
 module _ (f : ℕ → Bool) (cells blocks : ℕ) (s : List ℕ) (o n : ℕ) (z : Fault) (inv : dangles f cells blocks s n (records_from s o) ≡ z) where
-  pub name_end : length s ≤ o → Nowhere ≡ z
+  pub name_end : length s ≤ o → None ≡ z
   unfolding dangles
   name_end h = sweep_end _ _ _ s n o z inv h
 
   module _ (b : Bool) (w : Whole s o) (h : o < length s) (eb : b ≡ dangling f cells blocks s n o) where
-    pub name_bad : b ≡ true → At o ≡ z
+    pub name_bad : b ≡ true → Some o ≡ z
     unfolding dangles
     name_bad e = sweep_bad _ _ _ s n o z inv w h (sym eb ∙ e)
 

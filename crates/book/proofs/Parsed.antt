@@ -9,7 +9,7 @@ use native.Mathlib.Omega.{arith}
 use lib.Dec.{eqb}
 use lib.ListN.{length, length-map}
 use borrow.Author.Tests.{ne_eqb, eqb-true, eqb-false, not-false}
-use Rattle.book.specs.declared.Fault.TheVariants.{Nowhere}
+use Rattle.std.specs.Prelude.{None}
 use Rattle.book.specs.declared.Tally.{Tally}
 use Rattle.book.specs.declared.Refusal.TheVariants.{Passed}
 use Rattle.book.specs.Control.{when◌then◌else◌, those, while, sweep}
@@ -51,26 +51,26 @@ module _ (s : List ℕ) where
       go false q false t x = clash (simp (q, t) at x) refl
 
   -- so where the records end in order, a block stands
-  last_block : (os : List ℕ) (p : ℕ) → (p ≡ 4 → ⊥) → misplaced s p os ≡ Nowhere → 0 < length (those (in_group s 4) os)
+  last_block : (os : List ℕ) (p : ℕ) → (p ≡ 4 → ⊥) → misplaced s p os ≡ None → 0 < length (those (in_group s 4) os)
   unfolding misplaced sweep those
   last_block [] p n e = somewhere (simp (ne_eqb _ _ n) at e)
   last_block (o ∷ os) p n e = go (in_group s 4 o) refl (in_order p (group (byte_at s o))) refl (last_block os (min (group (byte_at s o)) 4))
     where
       go : (a : Bool) → in_group s 4 o ≡ a → (b : Bool) → in_order p (group (byte_at s o)) ≡ b
-          → ((min (group (byte_at s o)) 4 ≡ 4 → ⊥) → misplaced s (min (group (byte_at s o)) 4) os ≡ Nowhere → 0 < length (those (in_group s 4) os))
+          → ((min (group (byte_at s o)) 4 ≡ 4 → ⊥) → misplaced s (min (group (byte_at s o)) 4) os ≡ None → 0 < length (those (in_group s 4) os))
           → 0 < length (those (in_group s 4) (o ∷ os))
       go true q b r i = simp (those, q) (omega arith)
       go false q true r i = simp (those, q) (i (later p (group (byte_at s o)) n (eqb-false _ _ q) (group_most (byte_at s o)) r) (simp (sweep, r) at e))
       go false q false r i = somewhere (simp (sweep, r) at e)
 
   -- 4: the steps that follow
-  few_follow : (os : List ℕ) (n : Tally) → too_many n ≡ false → beyond s n os ≡ Nowhere → n.steps + length (while (in_group s 5) os) ≤ 64
+  few_follow : (os : List ℕ) (n : Tally) → too_many n ≡ false → beyond s n os ≡ None → n.steps + length (while (in_group s 5) os) ≤ 64
   unfolding beyond sweep while
   few_follow [] n m e = omega (arith, few_steps n m)
   few_follow (o ∷ os) n m e = go (in_group s 5 o) refl (too_many (counted n (group (byte_at s o)))) refl (few_follow os (counted n (group (byte_at s o))))
     where
       go : (a : Bool) → in_group s 5 o ≡ a → (b : Bool) → too_many (counted n (group (byte_at s o))) ≡ b
-          → (too_many (counted n (group (byte_at s o))) ≡ false → beyond s (counted n (group (byte_at s o))) os ≡ Nowhere
+          → (too_many (counted n (group (byte_at s o))) ≡ false → beyond s (counted n (group (byte_at s o))) os ≡ None
           → (counted n (group (byte_at s o))).steps + length (while (in_group s 5) os) ≤ 64)
           → n.steps + length (while (in_group s 5) (o ∷ os)) ≤ 64
       go false q b r i = simp (while, q) (omega (arith, few_steps n m))
@@ -83,7 +83,7 @@ module _ (s : List ℕ) where
   past_block : (o : ℕ) → in_group s 4 o ≡ true → next s o ≡ o + 2
   past_block o q = let h = block_span (byte_at s o) (eqb-true _ _ q) in omega arith
 
-  few_in : (o : ℕ) → Passing (Cleared (λ (n : Tally) o. too_many (counted n (group (byte_at s o)))) (λ n o. counted n (group (byte_at s o))) (λ n. Nowhere) s) (in_group s 4) o
+  few_in : (o : ℕ) → Passing (Cleared (λ (n : Tally) o. too_many (counted n (group (byte_at s o)))) (λ n o. counted n (group (byte_at s o))) (λ n. None) s) (in_group s 4) o
       → length (steps_from s (o + 2)) ≤ 64
   unfolding beyond steps_from
   few_in o h =
@@ -95,7 +95,7 @@ module _ (s : List ℕ) where
 module _ (s : List ℕ) (f : ℕ → Bool) (cells blocks : ℕ) where
   -- 6: a record, and those behind it, name what exists
   abbrev Named : ℕ → Type 0
-  Named o = Cleared (dangling f cells blocks s) (λ n o. when in_group s 2 o then n + 1 else n) (λ n. Nowhere) s o
+  Named o = Cleared (dangling f cells blocks s) (λ n o. when in_group s 2 o then n + 1 else n) (λ n. None) s o
 
   cell_in : (o : ℕ) → Passing Named (in_group s 3) o → cell_named f cells blocks (declared_at s o) ≡ true
   unfolding dangling

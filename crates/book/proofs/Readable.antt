@@ -12,8 +12,8 @@ use lib.Dec.{ltb}
 use lib.ListN.{length}
 use borrow.Author.Tests.{lt-ltb, le-ltb, ltb-false}
 use Rattle.labels.proofs.Impossible.{impossible}
-use Rattle.book.specs.declared.Fault.{Fault}
-use Rattle.book.specs.declared.Fault.TheVariants.{Nowhere, At}
+use Rattle.book.specs.Missing.{Fault}
+use Rattle.std.specs.Prelude.{None, Some}
 use Rattle.book.specs.declared.Refusal.{Refusal}
 use Rattle.book.specs.declared.Refusal.TheVariants.{Passed, Refused}
 use Rattle.book.specs.declared.Outline.{Outline}
@@ -24,7 +24,7 @@ use Rattle.book.specs.Outline.{outline_of, refused_reading, reading_of, reading}
 use Rattle.book.specs.Asked.{Whole, Small, Clear, Outlined}
 
 -- what the stages pass on
-pub pass_whole : (s : List ℕ) → cut_fault s ≡ Nowhere → Whole s 0
+pub pass_whole : (s : List ℕ) → cut_fault s ≡ None → Whole s 0
 unfolding cut_fault
 pass_whole s c2 = c2
 
@@ -38,22 +38,22 @@ unfolding unreadable
 refuse1 s x h ex = refused s 1 0 x ex (simp (lt-ltb _ _ h))
 
 module _ (s : List ℕ) (h : length s ≤ 32768) where
-  pub refuse2 : (x : Reading) (o : ℕ) → cut_fault s ≡ At o → x ≡ refused_reading 2 o → x ≡ reading s
+  pub refuse2 : (x : Reading) (o : ℕ) → cut_fault s ≡ Some o → x ≡ refused_reading 2 o → x ≡ reading s
   unfolding unreadable or_refuse
   refuse2 x o e ex = refused s 2 o x ex (simp (le-ltb _ _ h, e))
 
-  module _ (c2 : cut_fault s ≡ Nowhere) where
-    pub refuse3 : (x : Reading) (o : ℕ) → order_fault s ≡ At o → x ≡ refused_reading 3 o → x ≡ reading s
+  module _ (c2 : cut_fault s ≡ None) where
+    pub refuse3 : (x : Reading) (o : ℕ) → order_fault s ≡ Some o → x ≡ refused_reading 3 o → x ≡ reading s
     unfolding unreadable or_refuse
     refuse3 x o e ex = refused s 3 o x ex (simp (le-ltb _ _ h, c2, e))
 
-    module _ (c3 : order_fault s ≡ Nowhere) where
-      pub refuse4 : (x : Reading) (o : ℕ) → count_fault s ≡ At o → x ≡ refused_reading 4 o → x ≡ reading s
+    module _ (c3 : order_fault s ≡ None) where
+      pub refuse4 : (x : Reading) (o : ℕ) → count_fault s ≡ Some o → x ≡ refused_reading 4 o → x ≡ reading s
       unfolding unreadable or_refuse
       refuse4 x o e ex = refused s 4 o x ex (simp (le-ltb _ _ h, c2, c3, e))
 
-      module _ (c4 : count_fault s ≡ Nowhere) where
-        pub refuse5 : (x : Reading) (o : ℕ) → range_fault s ≡ At o → x ≡ refused_reading 5 o → x ≡ reading s
+      module _ (c4 : count_fault s ≡ None) where
+        pub refuse5 : (x : Reading) (o : ℕ) → range_fault s ≡ Some o → x ≡ refused_reading 5 o → x ≡ reading s
         unfolding unreadable or_refuse
         refuse5 x o e ex = refused s 5 o x ex (simp (le-ltb _ _ h, c2, c3, c4, e))
 
@@ -66,16 +66,16 @@ module _ (s : List ℕ) (h : length s ≤ 32768) where
     pub clear_outlined : (t : Outline) → t ≡ outline_of s → Outlined s t
     clear_outlined t et = record { small = clear_small; is = et }
 
-    last : name_fault s ≡ Nowhere → unreadable s ≡ Passed
+    last : name_fault s ≡ None → unreadable s ≡ Passed
     unfolding unreadable or_refuse
     last e = simp (le-ltb _ _ h, k.whole, k.ordered, k.few, k.narrow, e)
 
     module _ (f : Fault) (ef : f ≡ name_fault s) where
-      pub clear_refused : (x : Reading) (o : ℕ) → f ≡ At o → x ≡ refused_reading 6 o → x ≡ reading s
+      pub clear_refused : (x : Reading) (o : ℕ) → f ≡ Some o → x ≡ refused_reading 6 o → x ≡ reading s
       unfolding unreadable or_refuse
       clear_refused x o e ex = refused s 6 o x ex (simp (le-ltb _ _ h, k.whole, k.ordered, k.few, k.narrow, ← ef, e))
 
-      pub clear_read : (t : Outline) → f ≡ Nowhere → t ≡ outline_of s → record { refusal = Passed; outline = t } ≡ reading s
+      pub clear_read : (t : Outline) → f ≡ None → t ≡ outline_of s → record { refusal = Passed; outline = t } ≡ reading s
       unfolding reading_of
       clear_read t e et = rw (last (sym ef ∙ e), et) refl
 
@@ -84,16 +84,16 @@ pub ruleset clears = (clear_small, clear_outlined, clear_refused, clear_read)
 -- none of refusals 1 to 6 holds
 pub record Readable (s : List ℕ) : Type 0 where
   pub short : length s ≤ 32768
-  pub whole : cut_fault s ≡ Nowhere
-  pub ordered : order_fault s ≡ Nowhere
-  pub few : count_fault s ≡ Nowhere
-  pub narrow : range_fault s ≡ Nowhere
-  pub named : name_fault s ≡ Nowhere
+  pub whole : cut_fault s ≡ None
+  pub ordered : order_fault s ≡ None
+  pub few : count_fault s ≡ None
+  pub narrow : range_fault s ≡ None
+  pub named : name_fault s ≡ None
 
-stage : (n : ℕ) (f : Fault) (r : Refusal) → or_refuse n f r ≡ Passed → (f ≡ Nowhere) × (r ≡ Passed)
+stage : (n : ℕ) (f : Fault) (r : Refusal) → or_refuse n f r ≡ Passed → (f ≡ None) × (r ≡ Passed)
 unfolding or_refuse
-stage n Nowhere r e = (refl, e)
-stage n (At o) r e = impossible cc
+stage n None r e = (refl, e)
+stage n (Some o) r e = impossible cc
 
 first : (b : Bool) (r : Refusal) → (when b then Refused 1 0 else r) ≡ Passed → (b ≡ false) × (r ≡ Passed)
 first true r e = impossible cc

@@ -15,8 +15,8 @@ use lib.Dec.{eqb, ltb}
 use lib.ListN.{length}
 use borrow.Author.Tests.{lt-ltb, le-ltb, eq-eqb, ne_eqb, eqb-false, ltb-false}
 use Rattle.labels.proofs.Impossible.{impossible}
-use Rattle.book.specs.declared.Fault.{Fault}
-use Rattle.book.specs.declared.Fault.TheVariants.{Nowhere, At}
+use Rattle.book.specs.Missing.{Fault}
+use Rattle.std.specs.Prelude.{None, Some}
 use Rattle.book.specs.Control.{either, sweep, first}
 use Rattle.book.specs.Spans.{byte_at, next_by, cut_by, offsets_in, offsets_by, packed}
 use Rattle.book.proofs.Tests.{either_left, either_right, either_true}
@@ -97,11 +97,11 @@ module _ (span : ℕ → ℕ) where
             (ap (λ (l : List ℕ). o ∷ l) (enough f (length s) s (next_by span s o) (omega arith) (omega arith)))
 
     module _ (z : Fault) (inv : first (cut_by span s) (offsets_by span s o) ≡ z) where
-      pub fault_end : length s ≤ o → Nowhere ≡ z
+      pub fault_end : length s ≤ o → None ≡ z
       unfolding sweep
       fault_end h = simp (offsets_end h) at inv
 
-      pub fault_cut : o < length s → cut_by span s o ≡ true → At o ≡ z
+      pub fault_cut : o < length s → cut_by span s o ≡ true → Some o ≡ z
       unfolding sweep
       fault_cut h c = simp (offsets_cut h c, sweep, c) at inv
 
@@ -115,15 +115,15 @@ module _ (span : ℕ → ℕ) where
     pub spanned : 0 < span (byte_at s o)
     pub inside : next_by span s o ≤ length s
     pub list : offsets_by span s o ≡ o ∷ offsets_by span s (next_by span s o)
-    pub rest : first (cut_by span s) (offsets_by span s (next_by span s o)) ≡ Nowhere
+    pub rest : first (cut_by span s) (offsets_by span s (next_by span s o)) ≡ None
 
-  module _ (s : List ℕ) (o : ℕ) (w : first (cut_by span s) (offsets_by span s o) ≡ Nowhere) (h : o < length s) where
+  module _ (s : List ℕ) (o : ℕ) (w : first (cut_by span s) (offsets_by span s o) ≡ None) (h : o < length s) where
     pub walk : Walked s o
     walk = go (cut_by span s o) refl
       where
         go : (b : Bool) → cut_by span s o ≡ b → Walked s o
         go true c =
-            let e : At o ≡ Nowhere = fault_cut s o Nowhere w h c in
+            let e : Some o ≡ None = fault_cut s o None w h c in
             impossible cc
         go false c =
             record {
@@ -131,7 +131,7 @@ module _ (span : ℕ → ℕ) where
               spanned = uncut_span s o c;
               inside = uncut_inside s o c;
               list = offsets_more s o h c;
-              rest = fault_more s o Nowhere w h c;
+              rest = fault_more s o None w h c;
             }
 
     -- what is left of the bytes falls

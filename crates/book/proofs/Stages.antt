@@ -9,8 +9,8 @@ use native.Mathlib.Omega.{arith}
 use lib.Dec.{leb, ltb, eqb}
 use lib.ListN.{length}
 use borrow.Author.Tests.{lt-ltb, le-ltb, eq-eqb, ne_eqb, ltb-false}
-use Rattle.book.specs.declared.Fault.{Fault}
-use Rattle.book.specs.declared.Fault.TheVariants.{Nowhere, At}
+use Rattle.book.specs.Missing.{Fault}
+use Rattle.std.specs.Prelude.{None, Some}
 use Rattle.book.specs.declared.Tally.{Tally}
 use Rattle.book.specs.Control.{both, either, first}
 use Rattle.book.specs.Kinds.{span, group}
@@ -28,16 +28,16 @@ unfolding cut_fault
 cut_start s = refl
 
 module _ (s : List ℕ) (o p : ℕ) (z : Fault) (q : p ≡ next s o) (h : o < length s) (inv : first (cut s) (records_from s o) ≡ z) where
-  pub cut_none : p ≡ o → At o ≡ z
+  pub cut_none : p ≡ o → Some o ≡ z
   cut_none e = fault_cut span s o z inv h (cut_kind span s o (omega arith))
 
-  pub cut_short : length s < p → At o ≡ z
+  pub cut_short : length s < p → Some o ≡ z
   cut_short l = fault_cut span s o z inv h (cut_body span s o (omega arith))
 
   pub cut_on : (p ≡ o → ⊥) → p ≤ length s → first (cut s) (records_from s p) ≡ z
   cut_on n l = rw q (fault_more span s o z inv h (uncut span s o (λ e. n (omega arith)) (omega arith)))
 
-pub cut_end : (s : List ℕ) (o : ℕ) (z : Fault) → first (cut s) (records_from s o) ≡ z → length s ≤ o → Nowhere ≡ z
+pub cut_end : (s : List ℕ) (o : ℕ) (z : Fault) → first (cut s) (records_from s o) ≡ z → length s ≤ o → None ≡ z
 cut_end s o z inv h = fault_end span s o z inv h
 
 pub ruleset cuts = (cut_start, cut_none, cut_short, cut_on, cut_end)
@@ -68,16 +68,16 @@ unfolding order_fault
 order_start s = refl
 
 module _ (s : List ℕ) (o p : ℕ) (z : Fault) (inv : misplaced s p (records_from s o) ≡ z) where
-  pub order_end : length s ≤ o → p ≡ 4 → Nowhere ≡ z
+  pub order_end : length s ≤ o → p ≡ 4 → None ≡ z
   unfolding misplaced
   order_end h e = simp (eq-eqb _ _ e) at (sweep_end _ _ _ s p o z inv h)
 
-  pub order_short : length s ≤ o → (p ≡ 4 → ⊥) → At (length s) ≡ z
+  pub order_short : length s ≤ o → (p ≡ 4 → ⊥) → Some (length s) ≡ z
   unfolding misplaced
   order_short h e = simp (ne_eqb _ _ e) at (sweep_end _ _ _ s p o z inv h)
 
   module _ (g : ℕ) (b : Bool) (w : Whole s o) (h : o < length s) (eg : g ≡ group (byte_at s o)) (eb : b ≡ in_order p g) where
-    pub order_bad : b ≡ false → At o ≡ z
+    pub order_bad : b ≡ false → Some o ≡ z
     unfolding misplaced
     order_bad e = sweep_bad _ _ _ s p o z inv w h (simp (← eg, ← eb, e))
 
@@ -162,12 +162,12 @@ unfolding too_many either
 none_few = refl
 
 module _ (s : List ℕ) (o : ℕ) (n : Tally) (z : Fault) (inv : beyond s n (records_from s o) ≡ z) where
-  pub count_end : length s ≤ o → Nowhere ≡ z
+  pub count_end : length s ≤ o → None ≡ z
   unfolding beyond
   count_end h = sweep_end _ _ _ s n o z inv h
 
   module _ (g : ℕ) (m : Tally) (b : Bool) (w : Whole s o) (h : o < length s) (eg : g ≡ group (byte_at s o)) (em : m ≡ counted n g) (eb : b ≡ too_many m) where
-    pub count_bad : b ≡ true → At o ≡ z
+    pub count_bad : b ≡ true → Some o ≡ z
     unfolding beyond
     count_bad e = sweep_bad _ _ _ s n o z inv w h (simp (← eg, ← em, ← eb, e))
 
@@ -186,11 +186,11 @@ unfolding range_fault
 range_start s = refl
 
 module _ (s : List ℕ) (o : ℕ) (z : Fault) (inv : first (out_of_range s) (records_from s o) ≡ z) where
-  pub range_end : length s ≤ o → Nowhere ≡ z
+  pub range_end : length s ≤ o → None ≡ z
   range_end h = sweep_end _ _ _ s tt o z inv h
 
   module _ (b : Bool) (w : Whole s o) (h : o < length s) (eb : b ≡ out_of_range s o) where
-    pub range_bad : b ≡ true → At o ≡ z
+    pub range_bad : b ≡ true → Some o ≡ z
     range_bad e = sweep_bad _ _ _ s tt o z inv w h (sym eb ∙ e)
 
     pub range_on : (p : ℕ) → b ≡ false → p ≡ next s o → first (out_of_range s) (records_from s p) ≡ z

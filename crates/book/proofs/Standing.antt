@@ -10,14 +10,15 @@ use lib.ListN.{length}
 use borrow.Author.Tests.{lt-ltb, eq-eqb, eqb-true}
 use Rattle.labels.proofs.Impossible.{impossible}
 use Rattle.book.specs.declared.Step.{Step}
-use Rattle.book.specs.declared.StepAt.{StepAt}
-use Rattle.book.specs.declared.StepAt.TheVariants.{NoStep, StepThere}
+use Rattle.book.specs.Missing.{StepAt}
+use Rattle.std.specs.Prelude.{None, Some}
 use Rattle.book.specs.Control.{both}
 use Rattle.book.specs.Kinds.{group}
 use Rattle.book.specs.Records.{byte_at, next, in_group}
 use Rattle.book.specs.Book.{step_at}
 use Rattle.book.specs.Stretch.{step_found}
 use Rattle.book.specs.Asked.{Whole}
+use Rattle.book.proofs.Pairs.{same_found, none_found}
 use Rattle.book.proofs.Records.{walk}
 
 pub record Stood (w : List ℕ) (o : ℕ) (p : Step) (n : ℕ) : Type 0 where
@@ -26,21 +27,19 @@ pub record Stood (w : List ℕ) (o : ℕ) (p : Step) (n : ℕ) : Type 0 where
   pub on : n ≡ next w o
 
 module _ (w : List ℕ) (o : ℕ) (whole : Whole w o) (h : o < length w) (x : StepAt) (ex : x ≡ step_found w o) where
-  pub no : x ≡ NoStep → group (byte_at w o) ≡ 5 → ⊥
+  pub no : x ≡ None → group (byte_at w o) ≡ 5 → ⊥
   unfolding step_found both
   no e g =
       let k : in_group w 5 o ≡ true = eq-eqb _ _ g in
-      let y : StepThere (step_at w o) (next w o) ≡ NoStep = sym (simp (lt-ltb _ _ h, k, (walk w o whole h).uncut) at ex) ∙ e in
-      impossible cc
+      none_found (sym e ∙ simp (lt-ltb _ _ h, k, (walk w o whole h).uncut) at ex)
 
-  pub there : (p : Step) (n : ℕ) → x ≡ StepThere p n → Stood w o p n
+  pub there : (p : Step) (n : ℕ) → x ≡ Some (p, n) → Stood w o p n
   unfolding step_found both
   there p n e = go (in_group w 5 o) refl
     where
       go : (b : Bool) → in_group w 5 o ≡ b → Stood w o p n
       go true k =
-          let y : StepThere (step_at w o) (next w o) ≡ StepThere p n = sym (simp (lt-ltb _ _ h, k, (walk w o whole h).uncut) at ex) ∙ e in
-          record { kind = eqb-true _ _ k; is = cc; on = cc }
+          let y : (step_at w o ≡ p) × (next w o ≡ n) = same_found (sym (simp (lt-ltb _ _ h, k, (walk w o whole h).uncut) at ex) ∙ e) in
+          record { kind = eqb-true _ _ k; is = sym y.0; on = sym y.1 }
       go false k =
-          let y : NoStep ≡ StepThere p n = sym (simp (lt-ltb _ _ h, k) at ex) ∙ e in
-          impossible cc
+          none_found (sym (simp (lt-ltb _ _ h, k) at ex) ∙ e)

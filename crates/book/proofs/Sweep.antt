@@ -13,8 +13,8 @@ use lib.Dec.{ltb}
 use lib.ListN.{length}
 use borrow.Author.Tests.{ltb-true, ltb-false}
 use Rattle.labels.proofs.Impossible.{impossible}
-use Rattle.book.specs.declared.Fault.{Fault}
-use Rattle.book.specs.declared.Fault.TheVariants.{Nowhere, At}
+use Rattle.book.specs.Missing.{Fault}
+use Rattle.std.specs.Prelude.{None, Some}
 use Rattle.book.specs.Control.{sweep}
 use Rattle.book.specs.Records.{next, cut, records_from}
 use Rattle.book.specs.Asked.{Whole}
@@ -32,14 +32,14 @@ module _ {S : Type 0} (bad : S → ℕ → Bool) (on : S → ℕ → S) (end : S
   sweep_past h k b = simp (records_more s o h k, sweep, b) at inv
 
   module _ (w : Whole s o) (h : o < length s) where
-    pub sweep_bad : bad t o ≡ true → At o ≡ z
+    pub sweep_bad : bad t o ≡ true → Some o ≡ z
     unfolding sweep
     sweep_bad b = simp ((walk s o w h).list, sweep, b) at inv
 
     pub sweep_on : bad t o ≡ false → sweep bad on end (on t o) (records_from s (next s o)) ≡ z
     sweep_on b = sweep_past h (walk s o w h).uncut b
 
-pub somewhere : {X : Type 0} {o : ℕ} → At o ≡ Nowhere → X
+pub somewhere : {X : Type 0} {o : ℕ} → Some o ≡ None → X
 somewhere e = impossible cc
 
 module _ {S : Type 0} (bad : S → ℕ → Bool) (on : S → ℕ → S) (end : S → Fault) (s : List ℕ) where
@@ -48,26 +48,26 @@ module _ {S : Type 0} (bad : S → ℕ → Bool) (on : S → ℕ → S) (end : S
     pub before : S
     pub fine : bad before o ≡ false
     pub whole : Whole s (next s o)
-    pub rest : sweep bad on end (on before o) (records_from s (next s o)) ≡ Nowhere
+    pub rest : sweep bad on end (on before o) (records_from s (next s o)) ≡ None
 
-  clear : (os : List ℕ) (t : S) (o : ℕ) → records_from s o ≡ os → Whole s o → sweep bad on end t (records_from s o) ≡ Nowhere → All Cleared os
+  clear : (os : List ℕ) (t : S) (o : ℕ) → records_from s o ≡ os → Whole s o → sweep bad on end t (records_from s o) ≡ None → All Cleared os
   clear [] t o e w h = tt
   clear (x ∷ xs) t o e w h = go (ltb o (length s)) refl (bad t o) refl (clear xs (on t o) (next s o))
     where
       go : (a : Bool) → ltb o (length s) ≡ a → (b : Bool) → bad t o ≡ b
-          → (records_from s (next s o) ≡ xs → Whole s (next s o) → sweep bad on end (on t o) (records_from s (next s o)) ≡ Nowhere → All Cleared xs)
+          → (records_from s (next s o) ≡ xs → Whole s (next s o) → sweep bad on end (on t o) (records_from s (next s o)) ≡ None → All Cleared xs)
           → All Cleared (x ∷ xs)
       go false l b q r =
           let y : x ∷ xs ≡ [] = sym e ∙ records_end s o (ltb-false _ _ l) in
           impossible cc
-      go true l true q r = somewhere (sweep_bad bad on end s t o Nowhere h w (ltb-true _ _ l) q)
+      go true l true q r = somewhere (sweep_bad bad on end s t o None h w (ltb-true _ _ l) q)
       go true l false q r =
           let k = walk s o w (ltb-true _ _ l) in
-          let f = sweep_on bad on end s t o Nowhere h w (ltb-true _ _ l) q in
+          let f = sweep_on bad on end s t o None h w (ltb-true _ _ l) q in
           let y : x ∷ xs ≡ o ∷ records_from s (next s o) = sym e ∙ k.list in
           let i : o ≡ x = cc in
           let c : Cleared o = record { before = t; fine = q; whole = k.rest; rest = f } in
           (rw i at c, r (cc) k.rest f)
 
-  pub cleared : (t : S) (o : ℕ) → Whole s o → sweep bad on end t (records_from s o) ≡ Nowhere → All Cleared (records_from s o)
+  pub cleared : (t : S) (o : ℕ) → Whole s o → sweep bad on end t (records_from s o) ≡ None → All Cleared (records_from s o)
   cleared t o w h = clear (records_from s o) t o refl w h

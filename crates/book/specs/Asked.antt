@@ -15,8 +15,8 @@
 use Rattle.std.specs.Prelude.{◌≡◌, List, map, ℕ, ◌*◌, ◌≤◌, ◌<◌, Bool, false, eqb, length, get_or, replicate}
 use Rattle.labels.specs.Labels.{label}
 use Rattle.book.specs.declared.Shape.{Shape}
-use Rattle.book.specs.declared.CellAt.TheVariants.{CellThere}
-use Rattle.book.specs.declared.Fault.TheVariants.{Nowhere}
+use Rattle.std.specs.Prelude.{Some}
+use Rattle.std.specs.Prelude.{None}
 use Rattle.book.specs.declared.Counts.{Counts}
 use Rattle.book.specs.declared.Outline.{Outline}
 use Rattle.book.specs.declared.Skipped.{Skipped}
@@ -30,7 +30,7 @@ use Rattle.book.specs.Outline.{steps_end, shape_in, bound_at, start_at, length_a
 use Rattle.book.specs.Stretch.{cell_found}
 
 abbrev pub Whole : List ℕ → ℕ → Type 0
-Whole s o = first (cut s) (records_from s o) ≡ Nowhere
+Whole s o = first (cut s) (records_from s o) ≡ None
 
 abbrev pub limit : ℕ → ℕ → ℕ
 limit k i = get_or (limits k) i any_byte
@@ -42,14 +42,14 @@ skipped s o = record { at = steps_end s o; count = length (steps_from s o) }
 pub record Small (s : List ℕ) : Type 0 where
   pub short : length s ≤ max_book_bytes
   pub whole : Whole s 0
-  pub few : count_fault s ≡ Nowhere
+  pub few : count_fault s ≡ None
 
 -- a book that refusals 2 to 5 do not hold of
 pub record Clear (s : List ℕ) : Type 0 where
-  pub whole : cut_fault s ≡ Nowhere
-  pub ordered : order_fault s ≡ Nowhere
-  pub few : count_fault s ≡ Nowhere
-  pub narrow : range_fault s ≡ Nowhere
+  pub whole : cut_fault s ≡ None
+  pub ordered : order_fault s ≡ None
+  pub few : count_fault s ≡ None
+  pub narrow : range_fault s ≡ None
 
 -- a, b and c are the largest values of the first three fields of a kind's records
 abbrev pub Limited : ℕ → ℕ → ℕ → ℕ → Type 0
@@ -103,12 +103,12 @@ pub record Sound (shape : ℕ → Shape) : Type 0 where
 
 -- at each of these offsets a declared cell stands
 pub record Listed (s offsets : List ℕ) : Type 0 where
-  pub there : (i : ℕ) → i < length offsets → cell_found s (get_or offsets i 0) ≡ CellThere (declared_at s (get_or offsets i 0))
+  pub there : (i : ℕ) → i < length offsets → cell_found s (get_or offsets i 0) ≡ Some (declared_at s (get_or offsets i 0))
 
 -- the bounds, starts and lengths of the blocks of a book that can be read
 pub record Laid (s bounds starts lengths : List ℕ) : Type 0 where
   pub short : length s ≤ max_book_bytes
-  pub whole : cut_fault s ≡ Nowhere
+  pub whole : cut_fault s ≡ None
   pub bound : bounds ≡ map (bound_at s) (blocks_of s)
   pub start : starts ≡ map start_at (blocks_of s)
   pub long : lengths ≡ map (length_at s) (blocks_of s)

@@ -6,8 +6,8 @@
 -- Assumes nothing.
 use Rattle.std.specs.Prelude.{ℕ, Bool, true, false, List, [], ◌∷◌}
 use Rattle.std.proofs.Math.Option.{Option, none, some}
-use Rattle.book.specs.declared.Fault.{Fault}
-use Rattle.book.specs.declared.Fault.TheVariants.{Nowhere, At}
+use Rattle.book.specs.Missing.{Fault}
+use Rattle.std.specs.Prelude.{None, Some}
 
 infixr 10 when◌then◌else◌
 abbrev pub when◌then◌else◌ {ℓ} : {A : Type ℓ} → Bool → A → A → A
@@ -39,8 +39,8 @@ while f (x ∷ xs) = elim (f x) [ true ↦ x ∷ while f xs | false ↦ [] ]
 module _ {S : Type 0} (bad : S → ℕ → Bool) (on : S → ℕ → S) (end : S → Fault) where
   unfoldable pub sweep : S → List ℕ → Fault
   sweep t [] = end t
-  sweep t (o ∷ os) = elim (bad t o) [ true ↦ At o | false ↦ sweep (on t o) os ]
+  sweep t (o ∷ os) = elim (bad t o) [ true ↦ Some o | false ↦ sweep (on t o) os ]
 
 -- the first member that is bad
 abbrev pub first : (ℕ → Bool) → List ℕ → Fault
-first f os = sweep {S = Unit {0}} (λ t o. f o) (λ t o. t) (λ t. Nowhere) tt os
+first f os = sweep {S = Unit {0}} (λ t o. f o) (λ t o. t) (λ t. None) tt os

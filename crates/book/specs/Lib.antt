@@ -1,3 +1,4 @@
+pub mod Missing
 pub mod Control
 pub mod Numbers
 pub mod Kinds

@@ -4,8 +4,8 @@
 -- Assumes nothing.
 use Rattle.std.specs.Prelude.{ℕ, ◌+◌, min, Bool, true, false, not, List, [], ◌∷◌, length, get_or, leb, ltb, eqb}
 use Rattle.labels.specs.Labels.{label, trust}
-use Rattle.book.specs.declared.Fault.{Fault}
-use Rattle.book.specs.declared.Fault.TheVariants.{Nowhere, At}
+use Rattle.book.specs.Missing.{Fault}
+use Rattle.std.specs.Prelude.{None, Some}
 use Rattle.book.specs.declared.Refusal.{Refusal}
 use Rattle.book.specs.declared.Refusal.TheVariants.{Passed, Refused}
 use Rattle.book.specs.declared.Tally.{Tally}
@@ -33,7 +33,7 @@ in_order p g = when eqb p no_group then eqb g c_group else when eqb g step_group
 -- "The first record is missing or not C, a record is out of order, or no block stands (place: the book's length, or 0 if it is empty)."
 unfoldable pub misplaced : List ℕ → ℕ → List ℕ → Fault
 misplaced s p os =
-    sweep (λ p o. not (in_order p (group (byte_at s o)))) (λ p o. min (group (byte_at s o)) block_group) (λ p. when eqb p block_group then Nowhere else At (length s)) p os
+    sweep (λ p o. not (in_order p (group (byte_at s o)))) (λ p o. min (group (byte_at s o)) block_group) (λ p. when eqb p block_group then None else Some (length s)) p os
 
 unfoldable pub order_fault : List ℕ → Fault
 order_fault s = misplaced s no_group (records s)
@@ -56,7 +56,7 @@ too_many n = either (ltb max_shapes n.shapes) (either (ltb max_cells n.cells) (e
 
 unfoldable pub beyond : List ℕ → Tally → List ℕ → Fault
 beyond s n os =
-    sweep (λ n o. too_many (counted n (group (byte_at s o)))) (λ n o. counted n (group (byte_at s o))) (λ n. Nowhere) n os
+    sweep (λ n o. too_many (counted n (group (byte_at s o)))) (λ n o. counted n (group (byte_at s o))) (λ n. None) n os
 
 unfoldable pub count_fault : List ℕ → Fault
 count_fault s = beyond s no_tally (records s)
@@ -104,7 +104,7 @@ module _ (is_cell_shape : ℕ → Bool) (cells blocks : ℕ) where
       else false
 
   unfoldable pub dangles : List ℕ → ℕ → List ℕ → Fault
-  dangles s n os = sweep (dangling s) (λ n o. when in_group s shape_group o then n + 1 else n) (λ n. Nowhere) n os
+  dangles s n os = sweep (dangling s) (λ n o. when in_group s shape_group o then n + 1 else n) (λ n. None) n os
 
 -- past the shapes: no shape
 abbrev pub no_shape : Shape
@@ -118,8 +118,8 @@ name_fault s = let K = parse s in dangles (has_cell_shape K) (length K.cells) (l
 
 -- the number of a refusal, where a record is at fault
 unfoldable pub or_refuse : ℕ → Fault → Refusal → Refusal
-or_refuse n Nowhere r = r
-or_refuse n (At o) r = Refused n o
+or_refuse n None r = r
+or_refuse n (Some o) r = Refused n o
 
 -- 1: "The book is longer than 32,768 bytes." Place 0.
 unfoldable pub unreadable : List ℕ → Refusal

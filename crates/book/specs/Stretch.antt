@@ -7,10 +7,9 @@ use Rattle.std.specs.Prelude.{ℕ, Bool, not, List, length, get_or, take, drop, 
 use Rattle.book.specs.declared.Refusal.{Refusal}
 use Rattle.book.specs.declared.Refusal.TheVariants.{Passed, Refused}
 use Rattle.book.specs.declared.Found.{Found}
-use Rattle.book.specs.declared.StepAt.{StepAt}
-use Rattle.book.specs.declared.StepAt.TheVariants.{NoStep, StepThere}
-use Rattle.book.specs.declared.CellAt.{CellAt}
-use Rattle.book.specs.declared.CellAt.TheVariants.{NoCell, CellThere}
+use Rattle.book.specs.Missing.{StepAt}
+use Rattle.std.specs.Prelude.{None, Some}
+use Rattle.book.specs.Missing.{CellAt}
 use Rattle.book.specs.Numbers.{cell_group, step_group}
 use Rattle.book.specs.Control.{when◌then◌else◌, both}
 use Rattle.book.specs.Records.{next, cut, in_group}
@@ -40,11 +39,11 @@ abbrev pub stands : List ℕ → ℕ → ℕ → Bool
 stands s g o = both (ltb o (length s)) (both (in_group s g o) (not (cut s o)))
 
 unfoldable pub step_found : List ℕ → ℕ → StepAt
-step_found s o = when stands s step_group o then StepThere (step_at s o) (next s o) else NoStep
+step_found s o = when stands s step_group o then Some (step_at s o, next s o) else None
 
 -- the offset past it, 0 where none stands
 unfoldable pub step_end : List ℕ → ℕ → ℕ
 step_end s o = when stands s step_group o then next s o else 0
 
 unfoldable pub cell_found : List ℕ → ℕ → CellAt
-cell_found s o = when stands s cell_group o then CellThere (declared_at s o) else NoCell
+cell_found s o = when stands s cell_group o then Some (declared_at s o) else None

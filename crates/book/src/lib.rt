@@ -54,13 +54,6 @@ pub struct Declared {
     pub value: Value,
 }
 
-// Where the first record at fault stands, if one does.
-#[derive(Clone, Copy)]
-pub enum Fault {
-    Nowhere,
-    At(usize),
-}
-
 // A refusal by its number and place, or none.
 #[derive(Clone, Copy)]
 pub enum Refusal {
@@ -122,20 +115,6 @@ pub struct Found {
     pub refusal: Refusal,
     pub start: usize,
     pub length: usize,
-}
-
-// The step at an offset, and the offset past it.
-#[derive(Clone, Copy)]
-pub enum StepAt {
-    NoStep,
-    StepThere(Step, usize),
-}
-
-// The declared cell at an offset.
-#[derive(Clone, Copy)]
-pub enum CellAt {
-    NoCell,
-    CellThere(Declared),
 }
 
 impl Counts {

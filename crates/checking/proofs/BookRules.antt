@@ -11,8 +11,8 @@ use lib.ListN.{length, get_or, take, drop, drop_of_length-le, length-map}
 use lib.Seq.{drop-cons}
 use Rattle.labels.specs.Labels.{label}
 use Rattle.book.specs.declared.Step.{Step}
-use Rattle.book.specs.declared.Fault.{Fault}
-use Rattle.book.specs.declared.Fault.TheVariants.{Nowhere, At}
+use Rattle.book.specs.Missing.{Fault}
+use Rattle.std.specs.Prelude.{None, Some}
 use Rattle.book.specs.Book.{blocks_of, step_at, steps_from}
 use Rattle.book.specs.Outline.{steps_end, bound_at}
 use Rattle.book.specs.Asked.{Laid}
@@ -71,16 +71,16 @@ module _ (s bounds starts lengths : List ℕ) (u : Laid s bounds starts lengths)
         let e : x ≡ block_fault B s o = ex ∙ block_fault_lem B in
         rw e (simp (drop-cons (blocks_of s) i 0 (blocks s bounds starts lengths u i h), step_fault) at inv)
 
-    pub round_bad : (p : ℕ) → x ≡ At p → At p ≡ z
+    pub round_bad : (p : ℕ) → x ≡ Some p → Some p ≡ z
     unfolding or_then
     round_bad p e = simp e at now
 
-    pub round_good : x ≡ Nowhere → step_fault B s (drop (i + 1) (blocks_of s)) ≡ z
+    pub round_good : x ≡ None → step_fault B s (drop (i + 1) (blocks_of s)) ≡ z
     unfolding or_then
     round_good e = rw (add-one i) (simp e at now)
 
 pub round_end : (s bounds starts lengths : List ℕ) (u : Laid s bounds starts lengths) (i : ℕ) (B : View) (z : Fault)
-    → step_fault B s (drop i (blocks_of s)) ≡ z → length bounds ≤ i → Nowhere ≡ z
+    → step_fault B s (drop i (blocks_of s)) ≡ z → length bounds ≤ i → None ≡ z
 unfolding step_fault
 round_end s bounds starts lengths u i B z inv h =
     let e : length bounds ≡ length (blocks_of s) = ap length u.bound ∙ length-map (blocks_of s) (bound_at s) in

@@ -9,11 +9,10 @@ use native.Mathlib.Numerals.{add-one}
 use lib.ListN.{length, get_or, drop, drop_of_length-le}
 use lib.Seq.{drop-cons}
 use Rattle.labels.proofs.Impossible.{impossible}
-use Rattle.book.specs.declared.Fault.{Fault}
-use Rattle.book.specs.declared.Fault.TheVariants.{Nowhere, At}
+use Rattle.book.specs.Missing.{Fault}
+use Rattle.std.specs.Prelude.{None, Some}
 use Rattle.book.specs.declared.Declared.{Declared}
-use Rattle.book.specs.declared.CellAt.{CellAt}
-use Rattle.book.specs.declared.CellAt.TheVariants.{NoCell, CellThere}
+use Rattle.book.specs.Missing.{CellAt}
 use Rattle.book.specs.Control.{sweep}
 use Rattle.book.specs.Book.{declared_at}
 use Rattle.book.specs.Stretch.{cell_found}
@@ -22,30 +21,30 @@ use Rattle.typing.specs.Shapes.{View, declared_ok}
 use Rattle.typing.specs.Verdict.{cell_fault}
 
 module _ (B : View) (s os : List ℕ) (i : ℕ) (z : Fault) (inv : cell_fault B s (drop i os) ≡ z) where
-  pub cell_end : length os ≤ i → Nowhere ≡ z
+  pub cell_end : length os ≤ i → None ≡ z
   unfolding cell_fault sweep
   cell_end h = simp (drop_of_length-le os h) at inv
 
   -- x is what stands there, at o
   module _ (u : Listed s os) (h : i < length os) (o : ℕ) (x : CellAt) (eo : o ≡ get_or os i 0) (ex : x ≡ cell_found s o) where
-    listed : x ≡ CellThere (declared_at s (get_or os i 0))
+    listed : x ≡ Some (declared_at s (get_or os i 0))
     listed = ex ∙ ap (cell_found s) eo ∙ u.there i h
 
-    pub cell_none : x ≡ NoCell → Nowhere ≡ z
+    pub cell_none : x ≡ None → None ≡ z
     cell_none e =
-        let y : NoCell ≡ CellThere (declared_at s (get_or os i 0)) = sym e ∙ listed in
+        let y : None ≡ Some (declared_at s (get_or os i 0)) = sym e ∙ listed in
         impossible cc
 
-    module _ (d : Declared) (b : Bool) (e : x ≡ CellThere d) (eb : b ≡ declared_ok B d) where
+    module _ (d : Declared) (b : Bool) (e : x ≡ Some d) (eb : b ≡ declared_ok B d) where
       ok : declared_ok B (declared_at s (get_or os i 0)) ≡ b
       ok =
-          let y : CellThere (declared_at s (get_or os i 0)) ≡ CellThere d = sym listed ∙ e in
+          let y : Some (declared_at s (get_or os i 0)) ≡ Some d = sym listed ∙ e in
           let q : declared_at s (get_or os i 0) ≡ d = cc in
           ap (declared_ok B) q ∙ sym eb
 
-      pub cell_bad : b ≡ false → At o ≡ z
+      pub cell_bad : b ≡ false → Some o ≡ z
       unfolding cell_fault sweep
-      cell_bad n = ap At eo ∙ simp (drop-cons os i 0 h, sweep, ok, n) at inv
+      cell_bad n = ap Some eo ∙ simp (drop-cons os i 0 h, sweep, ok, n) at inv
 
       pub cell_good : b ≡ true → cell_fault B s (drop (i + 1) os) ≡ z
       unfolding cell_fault sweep

@@ -11,8 +11,8 @@ use Rattle.labels.proofs.Impossible.{impossible}
 use Rattle.labels.specs.declared.Label.{Label}
 use Rattle.book.specs.declared.Shape.{Shape}
 use Rattle.book.specs.declared.Declared.{Declared}
-use Rattle.book.specs.declared.Fault.{Fault}
-use Rattle.book.specs.declared.Fault.TheVariants.{Nowhere, At}
+use Rattle.book.specs.Missing.{Fault}
+use Rattle.std.specs.Prelude.{None, Some}
 use Rattle.book.specs.declared.Outline.{Outline}
 use Rattle.book.specs.declared.Reading.{Reading}
 use Rattle.book.specs.declared.Refusal.{Refusal}
@@ -57,19 +57,19 @@ module _ (s : List ℕ) (e : unreadable s ≡ Passed) (t : Outline) (et : t ≡ 
     cell_fault_lem : cell_fault (view_of (parse s)) s (cells_of s) ≡ x
     cell_fault_lem = sym (ex ∙ rw (view_is, cells_are s e t et) refl)
 
-    pub refuse7 : (o : ℕ) → x ≡ At o → Refused 7 o ≡ typed s
+    pub refuse7 : (o : ℕ) → x ≡ Some o → Refused 7 o ≡ typed s
     unfolding typed or_refused
     refuse7 o q = simp (cell_fault_lem, q)
 
-    module _ (q : x ≡ Nowhere) (y : Fault) (ey : y ≡ step_fault (outline_view t) s (blocks_of s)) where
+    module _ (q : x ≡ None) (y : Fault) (ey : y ≡ step_fault (outline_view t) s (blocks_of s)) where
       step_fault_lem : step_fault (view_of (parse s)) s (blocks_of s) ≡ y
       step_fault_lem = sym (ey ∙ rw view_is refl)
 
-      pub refuse8 : (o : ℕ) → y ≡ At o → Refused 8 o ≡ typed s
+      pub refuse8 : (o : ℕ) → y ≡ Some o → Refused 8 o ≡ typed s
       unfolding typed or_refused
       refuse8 o p = simp (cell_fault_lem, q, step_fault_lem, p)
 
-      pub accept : y ≡ Nowhere → Accepted t.counts.shapes t.counts.cells t.counts.blocks t.counts.steps ≡ typed s
+      pub accept : y ≡ None → Accepted t.counts.shapes t.counts.cells t.counts.blocks t.counts.steps ≡ typed s
       unfolding typed or_refused outline_of
       accept p = rw et (simp (cell_fault_lem, q, step_fault_lem, p))
 

@@ -8,11 +8,10 @@ use native.Mathlib.Omega.{arith}
 use lib.ListN.{length, length-set, set}
 use lib.Seq.{set_out}
 use Rattle.labels.specs.declared.Label.{Label}
-use Rattle.book.specs.declared.Fault.{Fault}
-use Rattle.book.specs.declared.Fault.TheVariants.{Nowhere, At}
+use Rattle.book.specs.Missing.{Fault}
+use Rattle.std.specs.Prelude.{None, Some}
 use Rattle.book.specs.declared.Step.{Step}
-use Rattle.book.specs.declared.StepAt.{StepAt}
-use Rattle.book.specs.declared.StepAt.TheVariants.{NoStep, StepThere}
+use Rattle.book.specs.Missing.{StepAt}
 use Rattle.book.specs.Book.{step_at, steps_from}
 use Rattle.book.specs.Stretch.{step_found}
 use Rattle.book.specs.Asked.{Whole}
@@ -46,16 +45,16 @@ module _ (B : View) (w : List ℕ) (s : State) (o : ℕ) (z : Fault) (inv : faul
   out : (a : ℕ) (f : Fault) → f ≡ z → shifted a f ≡ shifted a z
   out a f e = ap (shifted a) e
 
-  pub walk_end : (a : ℕ) → length w ≤ o → Nowhere ≡ shifted a z
+  pub walk_end : (a : ℕ) → length w ≤ o → None ≡ shifted a z
   unfolding fault shifted
-  walk_end a h = out a Nowhere (simp (steps_end_lem w o h) at inv)
+  walk_end a h = out a None (simp (steps_end_lem w o h) at inv)
 
   module _ (whole : Whole w o) (h : o < length w) (x : StepAt) (ex : x ≡ step_found w o) where
-    pub walk_none : (a : ℕ) → x ≡ NoStep → Nowhere ≡ shifted a z
+    pub walk_none : (a : ℕ) → x ≡ None → None ≡ shifted a z
     unfolding fault shifted
-    walk_none a e = out a Nowhere (simp (steps_none w o whole h (no w o whole h x ex e)) at inv)
+    walk_none a e = out a None (simp (steps_none w o whole h (no w o whole h x ex e)) at inv)
 
-    module _ (p : Step) (n : ℕ) (e : x ≡ StepThere p n) where
+    module _ (p : Step) (n : ℕ) (e : x ≡ Some (p, n)) where
       stood : Stood w o p n
       stood = there w o whole h x ex p n e
 
@@ -97,13 +96,13 @@ module _ (B : View) (w : List ℕ) (s : State) (o : ℕ) (z : Fault) (inv : faul
         unfolding told
         walk_lowers q e = passed _ (ap (told s) e)
 
-        pub walk_stuck : (a : ℕ) → y ≡ Stuck → Nowhere ≡ shifted a z
+        pub walk_stuck : (a : ℕ) → y ≡ Stuck → None ≡ shifted a z
         unfolding fault shifted told
-        walk_stuck a q = out a Nowhere (simp (steps_more w o whole h stood.kind, fault, here stuck (ap (told s) q)) at inv)
+        walk_stuck a q = out a None (simp (steps_more w o whole h stood.kind, fault, here stuck (ap (told s) q)) at inv)
 
-        pub walk_breaks : (a : ℕ) → y ≡ Breaks → At (a + o) ≡ shifted a z
+        pub walk_breaks : (a : ℕ) → y ≡ Breaks → Some (a + o) ≡ shifted a z
         unfolding fault shifted told
-        walk_breaks a q = out a (At o) (simp (steps_more w o whole h stood.kind, fault, here breaks (ap (told s) q)) at inv)
+        walk_breaks a q = out a (Some o) (simp (steps_more w o whole h stood.kind, fault, here breaks (ap (told s) q)) at inv)
 
 pub ruleset walks =
     (eight_fresh, eight_set, walk_start, walk_end, walk_none, walk_whole, walk_inside, walk_falls, walk_on, walk_gives, walk_gives_none, walk_lowers, walk_stuck, walk_breaks)

@@ -7,7 +7,6 @@ ghost use Rattle.typing.specs.Verdict.{step_fault};
 ghost use Rattle.typing.specs.Asked.{table_view};
 ghost use Rattle.checking.specs.Asked.{stretch_fault};
 
-use book::{Fault, StepAt};
 use labels::Label;
 use typing::{State, Stepped};
 
@@ -20,15 +19,15 @@ pub fn check_block(
     stretch: &[u8],
     start: usize,
     bound: Label,
-) -> Fault
+) -> Option<usize>
     requires { Sound (shape_in shapes.now) × Whole stretch.now 0 × (start + length stretch.now ≤ 65536) }
     ensures { result ≡ stretch_fault (table_view c shapes.now shaped.now bounds.now) stretch.now start bound }
 {
     let mut t = State::fresh(bound);
     let mut o: usize = 0;
     while o < stretch.len() {
-        let StepAt::StepThere(p, next) = decode::step_at(stretch, o) else {
-            return Fault::Nowhere;
+        let Some((p, next)) = decode::step_at(stretch, o) else {
+            return None;
         };
         let x = typing::type_step(shapes, shaped, bounds, c, t, p);
         match x {
@@ -45,11 +44,11 @@ pub fn check_block(
                 t.lowered = true;
                 o = next;
             }
-            Stepped::Stuck => return Fault::Nowhere,
-            Stepped::Breaks => return Fault::At(start + o),
+            Stepped::Stuck => return None,
+            Stepped::Breaks => return Some(start + o),
         }
     }
-    Fault::Nowhere
+    None
 }
 
 // The first step of a book that breaks its rule: each block's stretch, one after the other.
@@ -61,7 +60,7 @@ pub fn step_fault(
     c: Label,
     starts: &[u16],
     lengths: &[u16],
-) -> Fault
+) -> Option<usize>
     requires { Sound (shape_in shapes.now) × Laid book.now bounds.now starts.now lengths.now }
     ensures { result ≡ step_fault (table_view c shapes.now shaped.now bounds.now) book.now (blocks_of book.now) }
 {
@@ -72,10 +71,10 @@ pub fn step_fault(
         let end = start + length;
         let stretch = &book[start..end];
         let bound = Label(bounds[i]);
-        if let Fault::At(o) = check_block(shapes, shaped, bounds, c, stretch, start, bound) {
-            return Fault::At(o);
+        if let Some(o) = check_block(shapes, shaped, bounds, c, stretch, start, bound) {
+            return Some(o);
         }
         i = i + 1;
     }
-    Fault::Nowhere
+    None
 }

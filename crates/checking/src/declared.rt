@@ -5,7 +5,6 @@ ghost use Rattle.book.specs.Asked.{Sound, Listed};
 ghost use Rattle.typing.specs.Verdict.{cell_fault};
 ghost use Rattle.typing.specs.Asked.{table_view};
 
-use book::{CellAt, Fault};
 use labels::Label;
 
 // The first declared cell that breaks its rule.
@@ -16,21 +15,21 @@ pub fn cell_fault(
     bounds: &[u8],
     c: Label,
     offsets: &[u16],
-) -> Fault
+) -> Option<usize>
     requires { Sound (shape_in shapes.now) × Listed book.now offsets.now }
     ensures { result ≡ cell_fault (table_view c shapes.now shaped.now bounds.now) book.now offsets.now }
 {
     let mut i: usize = 0;
     while i < offsets.len() {
         let o = records::offset_of(offsets[i]);
-        let CellAt::CellThere(d) = decode::cell_at(book, o) else {
-            return Fault::Nowhere;
+        let Some(d) = decode::cell_at(book, o) else {
+            return None;
         };
         if typing::is_declared_ok(shapes, shaped, bounds, c, d) {
             i = i + 1;
         } else {
-            return Fault::At(o);
+            return Some(o);
         }
     }
-    Fault::Nowhere
+    None
 }

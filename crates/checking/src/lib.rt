@@ -10,7 +10,7 @@ ghost use Rattle.book.specs.Refusals.{unreadable};
 ghost use Rattle.book.specs.Outline.{outline_of};
 ghost use Rattle.typing.specs.Verdict.{typed, verdict};
 
-use book::{Fault, Outline, Refusal};
+use book::{Outline, Refusal};
 use typing::Verdict;
 
 // A readable book's verdict, from its outline.
@@ -29,7 +29,7 @@ fn type_book(book: &[u8], t: Outline) -> Verdict
     let shaped = &all_shaped[0..k];
     let bounds = &all_bounds[0..b];
     let offsets = &all_offsets[0..k];
-    if let Fault::At(o) = declared::cell_fault(book, &shapes, shaped, bounds, c, offsets) {
+    if let Some(o) = declared::cell_fault(book, &shapes, shaped, bounds, c, offsets) {
         return Verdict::Refused {
             number: 7,
             place: o,
@@ -39,7 +39,7 @@ fn type_book(book: &[u8], t: Outline) -> Verdict
     let all_lengths = t.lengths;
     let starts = &all_starts[0..b];
     let lengths = &all_lengths[0..b];
-    if let Fault::At(o) = blocks::step_fault(book, &shapes, shaped, bounds, c, starts, lengths) {
+    if let Some(o) = blocks::step_fault(book, &shapes, shaped, bounds, c, starts, lengths) {
         return Verdict::Refused {
             number: 8,
             place: o,

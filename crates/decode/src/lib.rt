@@ -7,7 +7,7 @@ ghost use Rattle.book.specs.Outline.{shape_in};
 ghost use Rattle.book.specs.Refusals.{value_named};
 ghost use Rattle.book.specs.Stretch.{step_found, step_end, cell_found};
 
-use book::{CellAt, Declared, Shape, Step, StepAt, Value, group, kind, value_kind};
+use book::{Declared, Shape, Step, Value, group, kind, value_kind};
 use labels::{Label, Trust};
 
 // The shape at an offset.
@@ -133,34 +133,34 @@ pub fn step_end(stretch: &[u8], offset: usize) -> usize
 }
 
 // The step that stands at an offset of a stretch, and the offset past it.
-pub fn step_at(stretch: &[u8], offset: usize) -> StepAt
+pub fn step_at(stretch: &[u8], offset: usize) -> Option<(Step, usize)>
     ensures { result ≡ step_found stretch.now offset }
 {
     let end = step_end(stretch, offset);
     if end == 0 {
-        return StepAt::NoStep;
+        return None;
     }
     let step = decode_step(stretch, offset);
-    StepAt::StepThere(step, end)
+    Some((step, end))
 }
 
 // The declared cell that stands at an offset of a book.
-pub fn cell_at(book: &[u8], offset: usize) -> CellAt
+pub fn cell_at(book: &[u8], offset: usize) -> Option<Declared>
     ensures { result ≡ cell_found book.now offset }
 {
     if offset < book.len() {
         let k = book[offset];
         if records::group_of(k) != group::CELLS {
-            return CellAt::NoCell;
+            return None;
         }
         let end = records::next_record(book, offset);
         if book.len() < end {
-            return CellAt::NoCell;
+            return None;
         }
         let cell = decode_cell(book, offset);
-        return CellAt::CellThere(cell);
+        return Some(cell);
     }
-    CellAt::NoCell
+    None
 }
 
 // The cell or block that a value names is one of so many.

@@ -11,7 +11,7 @@ use lib.Dec.{ltb}
 use lib.ListN.{length, length-map}
 use borrow.Author.Tests.{lt-ltb, le-ltb, ltb-true, ltb-false, ne_eqb}
 use Rattle.labels.specs.Labels.{label}
-use Rattle.book.specs.declared.Fault.TheVariants.{Nowhere, At}
+use Rattle.std.specs.Prelude.{None, Some}
 use Rattle.book.specs.declared.Refusal.TheVariants.{Passed}
 use Rattle.book.specs.Control.{first}
 use Rattle.book.specs.Records.{byte_at, number_at}
@@ -139,7 +139,7 @@ module _ (l : List ℕ) (o n : ℕ) (k : Scanning l o n) where
     pub scan_bad : (r : Scanned) → b ≡ true → r ≡ refused_scan 9 o → r ≡ scanned l
     unfolding unplayable scan_of or_refuse
     scan_bad r e x =
-        let f : At o ≡ event_fault l = by.fault_cut event_span l o (event_fault l) k.fault h (sym eb ∙ e) in
+        let f : Some o ≡ event_fault l = by.fault_cut event_span l o (event_fault l) k.fault h (sym eb ∙ e) in
         x ∙ simp (le-ltb _ _ k.short, ← f)
 
     scan_on : (p : ℕ) → b ≡ false → p ≡ next_event l o → Scanning l p (n + 1)
@@ -161,7 +161,7 @@ module _ (l : List ℕ) (o n : ℕ) (k : Scanning l o n) where
   pub scan_end : length l ≤ o → ◌≡◌ {A = Scanned} (record { refusal = Passed; count = n }) (scanned l)
   unfolding unplayable scan_of or_refuse
   scan_end h =
-      let f : Nowhere ≡ event_fault l = by.fault_end event_span l o (event_fault l) k.fault h in
+      let f : None ≡ event_fault l = by.fault_end event_span l o (event_fault l) k.fault h in
       let z : length (offsets_from l o) ≡ 0 = ap length (by.offsets_end event_span l o h) in
       let m : n ≡ length (events_from l 0) = omega (arith, k.count) in
       simp (le-ltb _ _ k.short, ← f, m)

@@ -11,8 +11,8 @@ use lib.Dec.{ltb}
 use lib.ListN.{length}
 use borrow.Author.Tests.{ltb-false}
 use Rattle.labels.proofs.Impossible.{impossible}
-use Rattle.book.specs.declared.Fault.{Fault}
-use Rattle.book.specs.declared.Fault.TheVariants.{Nowhere, At}
+use Rattle.book.specs.Missing.{Fault}
+use Rattle.std.specs.Prelude.{None, Some}
 use Rattle.book.specs.declared.Refusal.TheVariants.{Passed, Refused}
 use Rattle.book.specs.Control.{first}
 use Rattle.book.specs.Refusals.{or_refuse}
@@ -22,9 +22,9 @@ use Rattle.events.specs.Bytes.{event_span, next_event, event_cut, offsets_from, 
 -- o is inside the list, and from o on every event is whole
 pub record EventsWhole (l : List ℕ) (o : ℕ) : Type 0 where
   pub inside : o ≤ length l
-  pub unfailing : first (event_cut l) (offsets_from l o) ≡ Nowhere
+  pub unfailing : first (event_cut l) (offsets_from l o) ≡ None
 
-pub whole_start : (l : List ℕ) → event_fault l ≡ Nowhere → EventsWhole l 0
+pub whole_start : (l : List ℕ) → event_fault l ≡ None → EventsWhole l 0
 unfolding event_fault
 whole_start l e = record { inside = omega arith; unfailing = e }
 
@@ -35,8 +35,8 @@ passed_whole l e = long (ltb 65536 (length l)) refl (event_fault l) refl
   where
     long : (b : Bool) → ltb 65536 (length l) ≡ b → (f : Fault) → event_fault l ≡ f → EventsWhole l 0
     long true h f k = let z : Refused 9 0 ≡ Passed = simp h at e in impossible cc
-    long false h (At o) k = let z : Refused 9 o ≡ Passed = simp (h, k) at e in impossible cc
-    long false h Nowhere k = whole_start l k
+    long false h (Some o) k = let z : Refused 9 o ≡ Passed = simp (h, k) at e in impossible cc
+    long false h None k = whole_start l k
 
 pub passed_short : (l : List ℕ) → unplayable l ≡ Passed → length l ≤ 65536
 unfolding unplayable

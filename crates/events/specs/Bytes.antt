@@ -7,7 +7,7 @@
 -- Assumes nothing.
 use Rattle.std.specs.Prelude.{ℕ, ◌+◌, Bool, List, map, length, ltb, eqb}
 use Rattle.labels.specs.Labels.{label}
-use Rattle.book.specs.declared.Fault.{Fault}
+use Rattle.book.specs.Missing.{Fault}
 use Rattle.book.specs.declared.Refusal.{Refusal}
 use Rattle.book.specs.declared.Refusal.TheVariants.{Passed, Refused}
 use Rattle.book.specs.Control.{when◌then◌else◌, first}

@@ -3,7 +3,7 @@ ghost use Rattle.std.specs.Prelude.{◌≡◌, ◌<◌, length};
 ghost use Rattle.book.specs.Refusals.{cell_named, step_named, dangling, name_fault};
 ghost use Rattle.book.specs.Asked.{Outlined, is_cell_shape_in};
 
-use book::{Declared, Fault, Outline, Step, Value, group, kind};
+use book::{Declared, Outline, Step, Value, group, kind};
 
 // The shape of this number is a cell shape.
 fn is_cell_shape(shapes: &[u8], i: u8) -> bool
@@ -67,7 +67,7 @@ fn is_dangling(s: &[u8], o: usize, n: usize, shapes: &[u8], cells: usize, blocks
 }
 
 // 6: the first record that names what the book does not have.
-pub fn name_fault(s: &[u8], t: Outline) -> Fault
+pub fn name_fault(s: &[u8], t: Outline) -> Option<usize>
     requires { Outlined s.now t }
     ensures { result ≡ name_fault s.now }
 {
@@ -78,7 +78,7 @@ pub fn name_fault(s: &[u8], t: Outline) -> Fault
     let mut n: usize = 0;
     while o < s.len() {
         if is_dangling(s, o, n, &shapes, cells, blocks) {
-            return Fault::At(o);
+            return Some(o);
         }
         let k = s[o];
         let g = records::group_of(k);
@@ -87,5 +87,5 @@ pub fn name_fault(s: &[u8], t: Outline) -> Fault
             n = n + 1;
         }
     }
-    Fault::Nowhere
+    None
 }

@@ -3,24 +3,24 @@ ghost use Rattle.std.specs.Prelude.{◌≡◌, false, ◌<◌, min, length};
 ghost use Rattle.book.specs.Refusals.{cut_fault, in_order, order_fault, counted, too_many, count_fault, out_of_range, range_fault};
 ghost use Rattle.book.specs.Asked.{Whole, limit};
 
-use book::{Fault, Tally, group, kind, limit};
+use book::{Tally, group, kind, limit};
 
 // 2: a kind that is none, or a body that the book ends in.
-pub fn cut_fault(s: &[u8]) -> Fault
+pub fn cut_fault(s: &[u8]) -> Option<usize>
     ensures { result ≡ cut_fault s.now }
 {
     let mut o: usize = 0;
     while o < s.len() {
         let end = records::next_record(s, o);
         if end == o {
-            return Fault::At(o);
+            return Some(o);
         }
         if s.len() < end {
-            return Fault::At(o);
+            return Some(o);
         }
         o = end;
     }
-    Fault::Nowhere
+    None
 }
 
 // A record of group g may stand after one of group p.
@@ -47,7 +47,7 @@ pub fn block_group(g: u8) -> u8
 }
 
 // 3: the first record is not C, a record is out of order, or no block stands.
-pub fn order_fault(s: &[u8]) -> Fault
+pub fn order_fault(s: &[u8]) -> Option<usize>
     requires { Whole s.now 0 }
     ensures { result ≡ order_fault s.now }
 {
@@ -61,13 +61,13 @@ pub fn order_fault(s: &[u8]) -> Fault
             p = block_group(g);
             o = records::next_record(s, o);
         } else {
-            return Fault::At(o);
+            return Some(o);
         }
     }
     if p == group::BLOCKS {
-        return Fault::Nowhere;
+        return None;
     }
-    Fault::At(s.len())
+    Some(s.len())
 }
 
 // One record more.
@@ -112,7 +112,7 @@ pub fn too_many(n: Tally) -> bool
 }
 
 // 4: a record beyond 32 shapes, 32 cells, 64 blocks or 64 steps in a block.
-pub fn count_fault(s: &[u8]) -> Fault
+pub fn count_fault(s: &[u8]) -> Option<usize>
     requires { Whole s.now 0 }
     ensures { result ≡ count_fault s.now }
 {
@@ -127,12 +127,12 @@ pub fn count_fault(s: &[u8]) -> Fault
         let k = s[o];
         let m = count(n, records::group_of(k));
         if too_many(m) {
-            return Fault::At(o);
+            return Some(o);
         }
         n = m;
         o = records::next_record(s, o);
     }
-    Fault::Nowhere
+    None
 }
 
 // The largest value of a record's first field; that of any byte where any will do, or none stands.
@@ -244,16 +244,16 @@ fn out_of_range(s: &[u8], o: usize) -> bool
 }
 
 // 5: a label, bound or trust above 15, C above 14, a register above 7, a value kind above 2.
-pub fn range_fault(s: &[u8]) -> Fault
+pub fn range_fault(s: &[u8]) -> Option<usize>
     requires { Whole s.now 0 }
     ensures { result ≡ range_fault s.now }
 {
     let mut o: usize = 0;
     while o < s.len() {
         if out_of_range(s, o) {
-            return Fault::At(o);
+            return Some(o);
         }
         o = records::next_record(s, o);
     }
-    Fault::Nowhere
+    None
 }

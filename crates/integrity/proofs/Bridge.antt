@@ -12,8 +12,8 @@ use borrow.Author.Tests.{eqb-true, ltb-false, not-false}
 use Rattle.labels.proofs.Impossible.{impossible}
 use Rattle.book.specs.declared.Shape.{Shape}
 use Rattle.book.specs.declared.Step.{Step}
-use Rattle.book.specs.declared.Fault.{Fault}
-use Rattle.book.specs.declared.Fault.TheVariants.{Nowhere, At}
+use Rattle.book.specs.Missing.{Fault}
+use Rattle.std.specs.Prelude.{None, Some}
 use Rattle.book.specs.declared.Refusal.{Refusal}
 use Rattle.book.specs.declared.Refusal.TheVariants as B
 use Rattle.book.specs.Control.{either, sweep, first}
@@ -37,12 +37,12 @@ use Rattle.integrity.proofs.Invariant.{passes_all}
 use Rattle.integrity.proofs.Begins.{Accepted}
 
 -- where no record is at fault, each passes
-first_all : (f : ℕ → Bool) (os : List ℕ) → first f os ≡ Nowhere → All (λ o. f o ≡ false) os
+first_all : (f : ℕ → Bool) (os : List ℕ) → first f os ≡ None → All (λ o. f o ≡ false) os
 unfolding sweep
 first_all f [] e = tt
 first_all f (o ∷ os) e = go (f o) refl (first_all f os)
   where
-    go : (b : Bool) → f o ≡ b → (first f os ≡ Nowhere → All (λ o. f o ≡ false) os) → All (λ o. f o ≡ false) (o ∷ os)
+    go : (b : Bool) → f o ≡ b → (first f os ≡ None → All (λ o. f o ≡ false) os) → All (λ o. f o ≡ false) (o ∷ os)
     go true p r = somewhere (simp (sweep, p) at e)
     go false p r = (p, r (simp (sweep, p) at e))
 
@@ -69,11 +69,11 @@ module _ (s : List ℕ) where
       go false p true q = simp (p, q) (record { small = small_trust o (eqb-true _ _ q) e; cellular = λ h. refl })
       go false p false q = simp (p, q) (record { small = omega arith; cellular = λ (h : 0 < 0). absurd (omega arith) })
 
-  trusties : range_fault s ≡ Nowhere → All Trusty (parse s).shapes
+  trusties : range_fault s ≡ None → All Trusty (parse s).shapes
   unfolding range_fault parse group_of
   trusties e = mapped _ Trusty (shape_at s) (λ o p. trusty o p.known) (shapes_of s) (those_all _ (in_group s 2) (records s) (first_all (out_of_range s) (records s) e))
 
-  declareds : (B : View) → cell_fault B s (cells_of s) ≡ Nowhere → All (λ d. declared_ok B d ≡ true) (parse s).cells
+  declareds : (B : View) → cell_fault B s (cells_of s) ≡ None → All (λ d. declared_ok B d ≡ true) (parse s).cells
   unfolding cell_fault parse
   declareds B e =
       mapped _ (λ d. declared_ok B d ≡ true) (declared_at s) (λ o h. not-false _ h) (cells_of s) (first_all (λ o. not (declared_ok B (declared_at s o))) (cells_of s) e)
@@ -84,33 +84,33 @@ module _ (B : View) (at : ℕ → Step) where
   stuck_passes [] = refl
   stuck_passes (p ∷ ps) = refl
 
-  fault_passes : (os : List ℕ) (t : State) → fault B at t os ≡ Nowhere → passes_all B (map at os) (passes t) ≡ true
+  fault_passes : (os : List ℕ) (t : State) → fault B at t os ≡ None → passes_all B (map at os) (passes t) ≡ true
   unfolding fault
   fault_passes [] t e = refl
   fault_passes (o ∷ os) t e = go (step_rule B t (at o)) refl (fault_passes os)
     where
-      go : (x : Typed) → step_rule B t (at o) ≡ x → ((u : State) → fault B at u os ≡ Nowhere → passes_all B (map at os) (passes u) ≡ true)
+      go : (x : Typed) → step_rule B t (at o) ≡ x → ((u : State) → fault B at u os ≡ None → passes_all B (map at os) (passes u) ≡ true)
           → passes_all B (map at os) (step_rule B t (at o)) ≡ true
       go (passes u) h r = rw h (r u (simp (fault, h) at e))
       go stuck h r = rw h (stuck_passes (map at os))
       go breaks h r = somewhere (simp (fault, h) at e)
 
-or_then_lem : (f g : Fault) → or_then f g ≡ Nowhere → (f ≡ Nowhere) × (g ≡ Nowhere)
+or_then_lem : (f g : Fault) → or_then f g ≡ None → (f ≡ None) × (g ≡ None)
 unfolding or_then
-or_then_lem Nowhere g e = (refl, e)
-or_then_lem (At o) g e = somewhere e
+or_then_lem None g e = (refl, e)
+or_then_lem (Some o) g e = somewhere e
 
 abbrev BlockPasses : View → Block → Type 0
 BlockPasses B b = passes_all B b.steps (passes (fresh b.bound)) ≡ true
 
-blocks_pass : (B : View) (s os : List ℕ) → step_fault B s os ≡ Nowhere → All (BlockPasses B) (map (block_at s) os)
+blocks_pass : (B : View) (s os : List ℕ) → step_fault B s os ≡ None → All (BlockPasses B) (map (block_at s) os)
 unfolding step_fault block_fault block_at
 blocks_pass B s [] e = tt
 blocks_pass B s (o ∷ os) e =
     let x = or_then_lem _ _ e in
     (fault_passes B (step_at s) (steps_from s (o + 2)) _ x.0, blocks_pass B s os x.1)
 
-parsed_blocks : (s : List ℕ) (B : View) → step_fault B s (blocks_of s) ≡ Nowhere → All (BlockPasses B) (parse s).blocks
+parsed_blocks : (s : List ℕ) (B : View) → step_fault B s (blocks_of s) ≡ None → All (BlockPasses B) (parse s).blocks
 unfolding parse
 parsed_blocks s B e = blocks_pass B s (blocks_of s) e
 
@@ -121,13 +121,13 @@ module _ (m n k l : ℕ) where
   passed B.Passed s e = (refl, e)
   passed (B.Refused i o) s e = impossible cc
 
-  stage : (i : ℕ) (f : Fault) (x : Verdict) → or_refused i f x ≡ Verdicts.Accepted m n k l → (f ≡ Nowhere) × (x ≡ Verdicts.Accepted m n k l)
+  stage : (i : ℕ) (f : Fault) (x : Verdict) → or_refused i f x ≡ Verdicts.Accepted m n k l → (f ≡ None) × (x ≡ Verdicts.Accepted m n k l)
   unfolding or_refused
-  stage i Nowhere x e = (refl, e)
-  stage i (At o) x e = impossible cc
+  stage i None x e = (refl, e)
+  stage i (Some o) x e = impossible cc
 
   faultless : (s : List ℕ) → typed s ≡ Verdicts.Accepted m n k l
-      → (cell_fault (view_of (parse s)) s (cells_of s) ≡ Nowhere) × (step_fault (view_of (parse s)) s (blocks_of s) ≡ Nowhere)
+      → (cell_fault (view_of (parse s)) s (cells_of s) ≡ None) × (step_fault (view_of (parse s)) s (blocks_of s) ≡ None)
   unfolding typed
   faultless s e =
       let x = stage 7 (cell_fault (view_of (parse s)) s (cells_of s)) _ e in

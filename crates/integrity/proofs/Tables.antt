@@ -20,8 +20,8 @@ use Rattle.book.proofs.Every.{all_in, map_from}
 use Rattle.book.proofs.Parsed.{sound}
 use Rattle.typing.specs.declared.Verdict.TheVariants.{Accepted}
 use Rattle.typing.specs.Verdict.{verdict}
-use Rattle.machine.specs.declared.Launch.{Launch}
-use Rattle.machine.specs.declared.Launch.TheVariants.{Default, Given}
+use Rattle.machine.specs.Launch.{Launch}
+use Rattle.std.specs.Prelude.{None, Some}
 use Rattle.machine.specs.Histories.{lists}
 use Rattle.machine.specs.Events.{table_size, first_bound, launched_at, launch_label}
 use Rattle.machine.specs.Records.{CellRecord, JobRecord, value_record, cell_record, job_record, cell_records, job_records}
@@ -75,10 +75,10 @@ module _ (c : Label) (cs : List CellRecord) (js : List JobRecord) (h : Recorded 
 -- a launch label that is not refused is at most the bound
 launch_below : (K : Book) (launch : Launch) → unlaunched (first_bound K) launch ≡ Passed → reaches (first_bound K) (launch_label K launch) ≡ true
 unfolding unlaunched launched_at
-launch_below K Default p = default_below K
-launch_below K (Given l) p = go (is_above l (first_bound K)) refl
+launch_below K None p = default_below K
+launch_below K (Some l) p = go (is_above l (first_bound K)) refl
   where
-    go : (b : Bool) → is_above l (first_bound K) ≡ b → reaches (first_bound K) (launch_label K (Given l)) ≡ true
+    go : (b : Bool) → is_above l (first_bound K) ≡ b → reaches (first_bound K) (launch_label K (Some l)) ≡ true
     go true e = let x : Refused 14 0 ≡ Passed = simp e at p in impossible cc
     go false e = le-leb l.0 (first_bound K).0 (ltb-false (first_bound K).0 l.0 e)
 

@@ -6,7 +6,7 @@ use Rattle.book.specs.declared.Refusal.TheVariants.{Passed}
 use Rattle.book.specs.Book.{parse}
 use Rattle.typing.specs.declared.Verdict.TheVariants.{Accepted}
 use Rattle.typing.specs.Verdict.{verdict}
-use Rattle.machine.specs.declared.Launch.{Launch}
+use Rattle.machine.specs.Launch.{Launch}
 use Rattle.scheduler.specs.Rounds.{rounded}
 use Rattle.integrity.specs.Tables.{TablesKept}
 

@@ -10,7 +10,7 @@ use Rattle.book.specs.Book.{Book, parse}
 use Rattle.book.specs.Refusals.{unreadable}
 use Rattle.typing.specs.declared.Verdict.TheVariants.{Accepted}
 use Rattle.typing.specs.Verdict.{verdict}
-use Rattle.machine.specs.declared.Launch.{Launch}
+use Rattle.machine.specs.Launch.{Launch}
 use Rattle.machine.specs.Histories.{History}
 use Rattle.machine.specs.States.{State}
 use Rattle.machine.specs.Events.{block_of}

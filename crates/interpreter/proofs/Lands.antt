@@ -15,7 +15,7 @@ use borrow.Author.Tests.{lt-ltb, ltb-true, ltb-false}
 use Rattle.labels.proofs.Impossible.{impossible}
 use Rattle.labels.specs.declared.Label.{Label}
 use Rattle.book.specs.declared.Step.{Step}
-use Rattle.book.specs.declared.StepAt.TheVariants.{NoStep, StepThere}
+use Rattle.std.specs.Prelude.{None, Some}
 use Rattle.book.specs.Control.{both, on_some}
 use Rattle.book.specs.Records.{next}
 use Rattle.book.specs.Book.{parse, step_at, steps_from}
@@ -69,35 +69,35 @@ abbrev pub with_job : State Label → ℕ → StoredJob → State Label
 with_job s i t = record { cells = s.cells; jobs = set s.jobs i (job_of t) }
 
 -- a step is found inside
-found_inside : (b : List ℕ) (o : ℕ) (p : Step) (n : ℕ) → step_found b o ≡ StepThere p n → o < length b
+found_inside : (b : List ℕ) (o : ℕ) (p : Step) (n : ℕ) → step_found b o ≡ Some (p, n) → o < length b
 unfolding step_found both
 found_inside b o p n e = go (ltb o (length b)) refl
   where
     go : (t : Bool) → ltb o (length b) ≡ t → o < length b
     go true q = ltb-true _ _ q
-    go false q = let x : NoStep ≡ StepThere p n = simp q at e in impossible cc
+    go false q = let x : None ≡ Some (p, n) = simp q at e in impossible cc
 
 -- the steps that are left of a job's block begin where its offset says
 module _ (b : List ℕ) (j : StoredJob) (here : Placed b j) where
-  none_left : step_found b j.at ≡ NoStep → steps_from b j.at ≡ []
+  none_left : step_found b j.at ≡ None → steps_from b j.at ≡ []
   none_left e = go (ltb j.at (length b)) refl
     where
       go : (t : Bool) → ltb j.at (length b) ≡ t → steps_from b j.at ≡ []
       go true q =
           let h = ltb-true _ _ q in
-          steps_none b j.at here.whole h (no b j.at here.whole h NoStep (sym e) refl)
+          steps_none b j.at here.whole h (no b j.at here.whole h None (sym e) refl)
       go false q = steps_end_lem b j.at (ltb-false _ _ q)
 
-  pub no_step : step_found b j.at ≡ NoStep → get_elem? (block_of (parse b) j.block).steps j.position ≡ none
+  pub no_step : step_found b j.at ≡ None → get_elem? (block_of (parse b) j.block).steps j.position ≡ none
   no_step e =
       left_none (block_of (parse b) j.block).steps j.position (sym here.left ∙ ap (map (step_at b)) (none_left e))
 
-  module _ (p : Step) (n : ℕ) (e : step_found b j.at ≡ StepThere p n) where
+  module _ (p : Step) (n : ℕ) (e : step_found b j.at ≡ Some (p, n)) where
     inside : j.at < length b
     inside = found_inside b j.at p n e
 
     stood : Stood b j.at p n
-    stood = there b j.at here.whole inside (StepThere p n) (sym e) p n refl
+    stood = there b j.at here.whole inside (Some (p, n)) (sym e) p n refl
 
     left_is : drop j.position (block_of (parse b) j.block).steps ≡ p ∷ map (step_at b) (steps_from b n)
     left_is =
@@ -154,11 +154,11 @@ module _ {b : List ℕ} {s : State Label} {cells : List StoredCell} {n : ℕ} {j
     placed : Placed b (get_or jobs i d)
     placed = h.placed i d r
 
-    pub step_none : step_found b (get_or jobs i d).at ≡ NoStep → outcome_of sources table_size (parse b) s (StepOf i) ≡ unchanged no_step_left s
+    pub step_none : step_found b (get_or jobs i d).at ≡ None → outcome_of sources table_size (parse b) s (StepOf i) ≡ unchanged no_step_left s
     unfolding outcome_of on_some
     step_none e = simp (job_there i d r, no_step b (get_or jobs i d) placed e)
 
-    module _ (p : Step) (o : ℕ) (e : step_found b (get_or jobs i d).at ≡ StepThere p o) (dc c : StoredCell)
+    module _ (p : Step) (o : ℕ) (e : step_found b (get_or jobs i d).at ≡ Some (p, o)) (dc c : StoredCell)
         (ec : c ≡ get_or cells (clamped (reached_in p (get_or jobs i d).source (get_or jobs i d).registers)) dc) (x : Act) (f : ℕ)
         (t : Takes f (nearby (record { cell = c; cells = n; jobs = m })) p (get_or jobs i d).label (get_or jobs i d).source (get_or jobs i d).registers x) where
       same : reached_by p (job_of (get_or jobs i d)) ≡ reached_in p (get_or jobs i d).source (get_or jobs i d).registers

@@ -9,7 +9,7 @@ use native.Mathlib.Omega.{arith}
 use lib.ListN.{length, get_or, set}
 use Rattle.labels.specs.declared.Label.{Label}
 use Rattle.book.specs.declared.Refusal.TheVariants.{Passed}
-use Rattle.book.specs.declared.StepAt.TheVariants.{StepThere}
+use Rattle.std.specs.Prelude.{Some}
 use Rattle.book.specs.declared.Value.TheVariants.{CellName}
 use Rattle.book.specs.Spans.{byte_at}
 use Rattle.book.specs.Book.{blocks_of, step_at}
@@ -114,7 +114,7 @@ module _ {b starts : List ℕ} {state : State Label} {cells : List StoredCell} {
   abbrev Onward : ℕ → List StoredCell → ℕ → List StoredJob → ℕ → Type 0
   Onward = Turned b state (StepOf i)
 
-  found : step_found b (get_or jobs i d).at ≡ StepThere (step_at b z) u
+  found : step_found b (get_or jobs i d).at ≡ Some (step_at b z, u)
   found = rw (← step.ez) (sym (Decoded.step_some b z u step.eu step.un (step_at b z) refl))
 
   place : (z ≤ length b) × (64 ≤ byte_at b z)

@@ -12,8 +12,8 @@ use Rattle.book.specs.declared.Refusal.TheVariants.{Passed, Refused}
 use Rattle.book.specs.Control.{when◌then◌else◌, both}
 use Rattle.book.specs.Book.{parse}
 use Rattle.book.specs.Refusals.{unreadable}
-use Rattle.machine.specs.declared.Launch.{Launch}
-use Rattle.machine.specs.declared.Launch.TheVariants.{Default, Given}
+use Rattle.machine.specs.Launch.{Launch}
+use Rattle.std.specs.Prelude.{None, Some}
 use Rattle.machine.specs.declared.Event.{Event}
 use Rattle.machine.specs.Histories.{History, lists}
 use Rattle.machine.specs.States.{State}
@@ -42,8 +42,8 @@ memory_refusal events cells jobs room = or_next (untabled cells jobs) (unanswere
 
 -- 02, Three: 14, "when the launch label is above block 0's bound"
 unfoldable pub unlaunched : Label → Launch → Refusal
-unlaunched bound Default = Passed
-unlaunched bound (Given l) = when is_above l bound then Refused 14 0 else Passed
+unlaunched bound None = Passed
+unlaunched bound (Some l) = when is_above l bound then Refused 14 0 else Passed
 
 -- "running 1 to 6 and 9 to 11"; 02, Three: "14, after 11". By the refusals of the book, of the list and of the launch label, with the number of events
 unfoldable pub refusal_by : Refusal → Refusal → Refusal → ℕ → ℕ → ℕ → ℕ → Refusal

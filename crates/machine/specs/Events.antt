@@ -15,8 +15,8 @@ use Rattle.book.specs.Numbers.{max_value_kind}
 use Rattle.book.specs.Control.{both, on_some}
 use Rattle.book.specs.Book.{Book, Block, value_of}
 use Rattle.book.specs.Refusals.{no_shape, has_cell_shape, value_named}
-use Rattle.machine.specs.declared.Launch.{Launch}
-use Rattle.machine.specs.declared.Launch.TheVariants.{Default, Given}
+use Rattle.machine.specs.Launch.{Launch}
+use Rattle.std.specs.Prelude.{None, Some}
 use Rattle.machine.specs.declared.Event.{Event}
 use Rattle.machine.specs.declared.Event.TheVariants.{StepOf, WriteBy, RelabelBy, NewBy, ExecBy, StartBy}
 use Rattle.machine.specs.Control.{given}
@@ -55,8 +55,8 @@ first_bound K = (block_of K 0).bound
 
 -- 02, Three: "A run now takes a launch label for job 0". "Without one it is the smaller of C plus 1 and the bound."
 unfoldable pub launched_at : Label → Label → Launch → Label
-launched_at c bound Default = lower (label (c.0 + 1)) bound
-launched_at c bound (Given l) = l
+launched_at c bound None = lower (label (c.0 + 1)) bound
+launched_at c bound (Some l) = l
 
 abbrev pub launch_label : Book → Launch → Label
 launch_label K = launched_at K.c (first_bound K)

@@ -1,4 +1,5 @@
 pub mod Control
+pub mod Launch
 pub mod Histories
 pub mod States
 pub mod Acts

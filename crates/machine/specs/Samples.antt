@@ -15,8 +15,8 @@ use Rattle.book.specs.declared.Value.TheVariants.{Plain, CodeName}
 use Rattle.book.specs.declared.Step.TheVariants.{Put, Add, Lower, Choose}
 use Rattle.book.specs.Book.{Book, parse}
 use Rattle.book.specs.Samples.{book_a, last_write, book_of_choice}
-use Rattle.machine.specs.declared.Launch.{Launch}
-use Rattle.machine.specs.declared.Launch.TheVariants.{Default, Given}
+use Rattle.machine.specs.Launch.{Launch}
+use Rattle.std.specs.Prelude.{None, Some}
 use Rattle.machine.specs.declared.Event.{Event}
 use Rattle.machine.specs.declared.Event.TheVariants.{StepOf, WriteBy, RelabelBy, NewBy, ExecBy, StartBy}
 use Rattle.machine.specs.Histories.{History, hands, lists}
@@ -35,7 +35,7 @@ begun K launch = fresh_state lists K (launch_label K launch)
 
 -- 02, Three: "01's sample runs relied on the bound, so each of them now passes it"
 abbrev pub at_bound : Book → Launch
-at_bound K = Given (first_bound K)
+at_bound K = Some (first_bound K)
 
 abbrev pub answers_of : Book → List Event → List ℕ
 answers_of K es = answers lists table_size K (begun K (at_bound K)) es
@@ -172,14 +172,14 @@ of_bounds a b =
 
 -- the default label, by C and the bound
 abbrev pub by_default : ℕ → ℕ → ℕ
-by_default c b = (launched_at (label c) (label b) Default).0
+by_default c b = (launched_at (label c) (label b) None).0
 
 -- 02, Three. Book A has C 3 and the bound 12, and writes a cell of label 9.
 pub record LaunchRuns : Type 0 where
-  pub low_answers : answers lists table_size (of_bound 0x0C) (begun (of_bound 0x0C) Default) four_steps ≡ 0 ∷ 0 ∷ 1 ∷ 1 ∷ []
-  pub low_job : map hands_of (begun (of_bound 0x0C) Default).jobs ≡ hands_at 4 ∷ []
-  pub given_answers : answers lists table_size (of_bound 0x0C) (begun (of_bound 0x0C) (Given (label 9))) four_steps ≡ 0 ∷ 0 ∷ 0 ∷ 2 ∷ []
-  pub given_job : map hands_of (begun (of_bound 0x0C) (Given (label 9))).jobs ≡ hands_at 9 ∷ []
+  pub low_answers : answers lists table_size (of_bound 0x0C) (begun (of_bound 0x0C) None) four_steps ≡ 0 ∷ 0 ∷ 1 ∷ 1 ∷ []
+  pub low_job : map hands_of (begun (of_bound 0x0C) None).jobs ≡ hands_at 4 ∷ []
+  pub given_answers : answers lists table_size (of_bound 0x0C) (begun (of_bound 0x0C) (Some (label 9))) four_steps ≡ 0 ∷ 0 ∷ 0 ∷ 2 ∷ []
+  pub given_job : map hands_of (begun (of_bound 0x0C) (Some (label 9))).jobs ≡ hands_at 9 ∷ []
   -- "block 0's bound", whatever that of block 1 is
   pub bounds : (first_bound (of_bounds 12 2)).0 ∷ (first_bound (of_bounds 2 12)).0 ∷ [] ≡ 12 ∷ 2 ∷ []
   -- "the smaller of C plus 1 and the bound": C plus 1 below the bound, at it, and above it

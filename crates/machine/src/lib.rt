@@ -6,13 +6,6 @@ pub mod kind;
 
 use labels::Label;
 
-// The label that a run is given for job 0: none, or one.
-#[derive(Clone, Copy)]
-pub enum Launch {
-    Default,
-    Given(Label),
-}
-
 // An event, its fields in the record's order: 80 step job; by an outsider at a label, 81 write cell, value kind, number; 82 relabel
 // cell, label; 83 new shape, value kind, number; 84 exec cell; 85 start block.
 #[derive(Clone, Copy)]

@@ -8,7 +8,7 @@ ghost use Rattle.book.specs.Asked.{Clear};
 ghost use Rattle.book.specs.Outline.{reading};
 ghost use Rattle.book.specs.Stretch.{found_block, stretch};
 
-use book::{Fault, Found, Reading, Refusal};
+use book::{Found, Reading, Refusal};
 
 // The bytes of the longest book that can be read.
 const LONGEST: usize = 32768;
@@ -19,7 +19,7 @@ fn read_clear(book: &[u8]) -> Reading
     ensures { result ≡ reading book.now }
 {
     let outline = gather::outline(book);
-    if let Fault::At(o) = faults::name_fault(book, outline) {
+    if let Some(o) = faults::name_fault(book, outline) {
         return Reading::refused(6, o);
     }
     Reading {
@@ -36,16 +36,16 @@ pub fn read(book: &[u8]) -> Reading
         return Reading::refused(1, 0);
     }
     if !screening::is_clear(book) {
-        if let Fault::At(o) = faults::cut_fault(book) {
+        if let Some(o) = faults::cut_fault(book) {
             return Reading::refused(2, o);
         }
-        if let Fault::At(o) = faults::order_fault(book) {
+        if let Some(o) = faults::order_fault(book) {
             return Reading::refused(3, o);
         }
-        if let Fault::At(o) = faults::count_fault(book) {
+        if let Some(o) = faults::count_fault(book) {
             return Reading::refused(4, o);
         }
-        if let Fault::At(o) = faults::range_fault(book) {
+        if let Some(o) = faults::range_fault(book) {
             return Reading::refused(5, o);
         }
     }

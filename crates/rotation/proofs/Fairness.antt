@@ -18,8 +18,8 @@ use Rattle.book.specs.Book.{Book}
 use Rattle.machine.specs.Histories.{Histories}
 use Rattle.machine.specs.States.{State}
 use Rattle.machine.specs.Events.{table_size, fresh_state}
-use Rattle.rotation.specs.declared.JobFound.{JobFound}
-use Rattle.rotation.specs.declared.JobFound.TheVariants.{At, Nothing}
+use Rattle.rotation.specs.Found.{JobFound}
+use Rattle.std.specs.Prelude.{Some, None}
 use Rattle.rotation.specs.Round.{first_place, has_step, next_job, stepped, place_after, chosen_jobs, round_of}
 use Rattle.rotation.specs.Fairness.{after_turns, Fair, Fair64, EndsEarly, ChosenCan}
 use Rattle.rotation.proofs.Entries.{entry_drop, entry_inside}
@@ -89,8 +89,8 @@ module _ (A : Histories) (size : ℕ) where
   over K (suc n) s from z e = go (next_job K s from) refl
     where
       go : (x : JobFound) → next_job K s from ≡ x → (i : ℕ) → has_step K s i ≡ false
-      go (At j) p = let c = chosen_on A size K n s from j p in impossible cc
-      go Nothing p = next_none K s from p
+      go (Some j) p = let c = chosen_on A size K n s from j p in impossible cc
+      go None p = next_none K s from p
 
 pub ends_early : EndsEarly
 ends_early A size K l turns h =

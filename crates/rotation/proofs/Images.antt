@@ -17,8 +17,8 @@ use Rattle.machine.specs.Events.{Outcome, fresh_state}
 use Rattle.machine.specs.Images.{job_image, state_image, Images}
 use Rattle.machine.proofs.Maps.{get_elem?_map, on_some_entry}
 use Rattle.machine.proofs.Sources.{source_law}
-use Rattle.rotation.specs.declared.JobFound.{JobFound}
-use Rattle.rotation.specs.declared.JobFound.TheVariants.{At, Nothing}
+use Rattle.rotation.specs.Found.{JobFound}
+use Rattle.std.specs.Prelude.{Some, None}
 use Rattle.rotation.specs.Round.{first_place, scan, has_step, next_job, stepped, place_after, chosen_jobs}
 use Rattle.rotation.proofs.Rounds.{chosen_on, chosen_over}
 
@@ -47,12 +47,12 @@ module _ (A B : Histories) (f : A.H → B.H) (size : ℕ) (K : Book) (law : Imag
       go : (x : JobFound) → next_job K s from ≡ x
           → ((j : ℕ) → chosen_jobs B size K n (state_image f (stepped A size K s j)) (place_after j) ≡ chosen_jobs A size K n (stepped A size K s j) (place_after j))
           → chosen_jobs B size K (suc n) (state_image f s) from ≡ chosen_jobs A size K (suc n) s from
-      go (At j) e next =
+      go (Some j) e next =
           chosen_on B size K n (state_image f s) from j (next_image f K s from ∙ e)
           ∙ ap (λ (t : State B.H). j ∷ chosen_jobs B size K n t (place_after j)) (stepped_image s j)
           ∙ ap (λ (l : List ℕ). j ∷ l) (next j)
           ∙ sym (chosen_on A size K n s from j e)
-      go Nothing e next = chosen_over B size K n (state_image f s) from (next_image f K s from ∙ e) ∙ sym (chosen_over A size K n s from e)
+      go None e next = chosen_over B size K n (state_image f s) from (next_image f K s from ∙ e) ∙ sym (chosen_over A size K n s from e)
 
 module _ (size : ℕ) (K : Book) where
   pub chosen_sources : (n : ℕ) (s : State lists.H) (from : ℕ) → chosen_jobs sources size K n (state_image source s) from ≡ chosen_jobs lists size K n s from

@@ -22,7 +22,7 @@ use Rattle.machine.specs.States.{Job, State}
 use Rattle.machine.specs.Acts.{Effect, blocked, keep, store, create, launch}
 use Rattle.machine.specs.Steps.{turn_of}
 use Rattle.machine.specs.Events.{fresh_state, Outcome, unchanged, no_step_left, no_such, block_of, landed, turn_landed, outcome_of, state_after}
-use Rattle.rotation.specs.declared.JobFound.TheVariants.{At}
+use Rattle.std.specs.Prelude.{Some}
 use Rattle.rotation.specs.Round.{first_place, unfinished, has_step, next_job, stepped, place_after, chosen_jobs, round_of}
 use Rattle.rotation.specs.Fairness.{after_turns}
 use Rattle.rotation.specs.Order.{StepLeft, FirstInRing, PassedOver, NextInRing}
@@ -86,7 +86,7 @@ step_left A size K s i = record { left = entry_left A size K s i (get_elem? s.jo
 
 -- ---- the next job
 -- job b is next, from behind job a: no job between them, around the ring, has a step left
-module _ {H : Type 0} (K : Book) (s : State H) (a b : ℕ) (la : a < length s.jobs) (e : next_job K s (place_after a) ≡ At b) where
+module _ {H : Type 0} (K : Book) (s : State H) (a b : ℕ) (la : a < length s.jobs) (e : next_job K s (place_after a) ≡ Some b) where
   abbrev m : ℕ
   m = length s.jobs
 
@@ -132,7 +132,7 @@ module _ (A : Histories) (size : ℕ) (K : Book) where
 
   -- the job of a round's second turn is the next one behind the first's
   second_next : (n : ℕ) (s : State H) (from a b : ℕ) → get_elem? (chosen_jobs A size K n s from) 0 ≡ some a → get_elem? (chosen_jobs A size K n s from) 1 ≡ some b
-      → next_job K (stepped A size K s a) (place_after a) ≡ At b
+      → next_job K (stepped A size K s a) (place_after a) ≡ Some b
   unfolding chosen_jobs
   second_next zero s from a b ea eb = impossible cc
   second_next (suc n) s from a b ea eb =

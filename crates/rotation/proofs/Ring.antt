@@ -19,8 +19,8 @@ use borrow.Author.Tests.{ltb-true, ltb-false, lt-ltb, le-ltb}
 use Rattle.labels.proofs.Impossible.{impossible}
 use Rattle.book.specs.Control.{when◌then◌else◌}
 use Rattle.book.proofs.Tests.{clash}
-use Rattle.rotation.specs.declared.JobFound.{JobFound}
-use Rattle.rotation.specs.declared.JobFound.TheVariants.{At, Nothing}
+use Rattle.rotation.specs.Found.{JobFound}
+use Rattle.std.specs.Prelude.{Some, None}
 use Rattle.rotation.specs.Round.{first_place, after, scan}
 
 pub by_order : {X : Type 0} (a b : ℕ) → (a < b → X) → (b ≤ a → X) → X
@@ -85,7 +85,7 @@ far_next m i t l lt ne =
 
 -- ---- one place of a scan
 module _ (f : ℕ → Bool) (m k i : ℕ) where
-  pub scan_hits : f i ≡ true → scan f m (suc k) i ≡ At i
+  pub scan_hits : f i ≡ true → scan f m (suc k) i ≡ Some i
   unfolding scan
   scan_hits e = simp (scan, e)
 
@@ -103,7 +103,7 @@ module _ (f : ℕ → Bool) (m : ℕ) where
       let c : suc r + b ≡ suc (r + b) = omega arith in
       ap (λ (k : ℕ). scan f m k (first_place i m)) c ∙ ap (scan f m (suc (r + b))) (first_on i m l)
 
-  pub hits_ahead : (r b i : ℕ) → f i ≡ true → i < m → At i ≡ scan f m (suc r + b) (first_place i m)
+  pub hits_ahead : (r b i : ℕ) → f i ≡ true → i < m → Some i ≡ scan f m (suc r + b) (first_place i m)
   hits_ahead r b i e l = sym (ahead r b i l ∙ scan_hits f m (r + b) i e)
 
   pub misses_ahead : (r b i : ℕ) → f i ≡ false → i < m → scan f m (r + b) (first_place (i + 1) m) ≡ scan f m (suc r + b) (first_place i m)
@@ -124,7 +124,7 @@ module _ (f : ℕ → Bool) (m : ℕ) where
 -- it passes, it is a place of the ring, and it is no further than t
 pub record Finds (f : ℕ → Bool) (m i t : ℕ) (x : JobFound) : Type 0 where
   pub at : ℕ
-  pub is : x ≡ At at
+  pub is : x ≡ Some at
   pub passes : f at ≡ true
   pub inside : at < m
   pub near : far m i at ≤ far m i t
@@ -179,30 +179,30 @@ scan_same f g m h (suc k) i l = go (f i) refl (scan_same f g m h k (after i m) (
     go true p r = scan_hits f m k i p ∙ sym (scan_hits g m k i (sym (h i l) ∙ p))
     go false p r = scan_misses f m k i p ∙ r ∙ sym (scan_misses g m k i (sym (h i l) ∙ p))
 
-pub scan_inside : (f : ℕ → Bool) (m k i j : ℕ) → i < m → scan f m k i ≡ At j → j < m
+pub scan_inside : (f : ℕ → Bool) (m k i j : ℕ) → i < m → scan f m k i ≡ Some j → j < m
 unfolding scan
 scan_inside f m zero i j l e = impossible cc
 scan_inside f m (suc k) i j l e = go (f i) refl (scan_inside f m k (after i m) j (first_inside (suc i) m (omega arith)))
   where
-    go : (b : Bool) → f i ≡ b → (scan f m k (after i m) ≡ At j → j < m) → j < m
+    go : (b : Bool) → f i ≡ b → (scan f m k (after i m) ≡ Some j → j < m) → j < m
     go true p r = let q = scan_hits f m k i p in let z : i ≡ j = cc in omega arith
     go false p r = r (sym (scan_misses f m k i p) ∙ e)
 
-pub scan_passes : (f : ℕ → Bool) (m k i j : ℕ) → scan f m k i ≡ At j → f j ≡ true
+pub scan_passes : (f : ℕ → Bool) (m k i j : ℕ) → scan f m k i ≡ Some j → f j ≡ true
 unfolding scan
 scan_passes f m zero i j e = impossible cc
 scan_passes f m (suc k) i j e = go (f i) refl (scan_passes f m k (after i m) j)
   where
-    go : (b : Bool) → f i ≡ b → (scan f m k (after i m) ≡ At j → f j ≡ true) → f j ≡ true
+    go : (b : Bool) → f i ≡ b → (scan f m k (after i m) ≡ Some j → f j ≡ true) → f j ≡ true
     go true p r = let q = scan_hits f m k i p in let z : i ≡ j = cc in cc
     go false p r = r (sym (scan_misses f m k i p) ∙ e)
 
-pub scan_none : (f : ℕ → Bool) (m i : ℕ) → scan f m m i ≡ Nothing → i < m → (j : ℕ) → j < m → f j ≡ false
+pub scan_none : (f : ℕ → Bool) (m i : ℕ) → scan f m m i ≡ None → i < m → (j : ℕ) → j < m → f j ≡ false
 scan_none f m i e l j lj = go (f j) refl
   where
     go : (b : Bool) → f j ≡ b → f j ≡ false
     go false p = p
     go true p =
         let r = finds f m j p lj m i l (far_inside m i j (omega arith) lj) in
-        let a : scan f m m i ≡ At r.at = r.is in
+        let a : scan f m m i ≡ Some r.at = r.is in
         impossible cc

@@ -22,8 +22,8 @@ use Rattle.machine.specs.declared.Event.TheVariants.{StepOf}
 use Rattle.machine.specs.Histories.{Histories}
 use Rattle.machine.specs.States.{State}
 use Rattle.machine.specs.Events.{state_after}
-use Rattle.rotation.specs.declared.JobFound.{JobFound}
-use Rattle.rotation.specs.declared.JobFound.TheVariants.{At, Nothing}
+use Rattle.rotation.specs.Found.{JobFound}
+use Rattle.std.specs.Prelude.{Some, None}
 use Rattle.rotation.specs.Round.{first_place, has_step, next_job, stepped, place_after, chosen_jobs}
 use Rattle.rotation.proofs.Ring.{by_order, first_inside, far_inside, Finds, finds, scan_passes, scan_none}
 use Rattle.rotation.proofs.Kept.{kept}
@@ -41,14 +41,14 @@ module _ {H : Type 0} (K : Book) where
   has_same s t i e = rw e
 
   module _ (s : State H) (from : ℕ) where
-    pub next_passes : (j : ℕ) → next_job K s from ≡ At j → has_step K s j ≡ true
+    pub next_passes : (j : ℕ) → next_job K s from ≡ Some j → has_step K s j ≡ true
     unfolding next_job
     next_passes j e = scan_passes (has_step K s) _ _ _ j e
 
-    pub next_inside : (j : ℕ) → next_job K s from ≡ At j → j < length s.jobs
+    pub next_inside : (j : ℕ) → next_job K s from ≡ Some j → j < length s.jobs
     next_inside j e = has_inside s j (next_passes j e)
 
-    pub next_none : next_job K s from ≡ Nothing → (i : ℕ) → has_step K s i ≡ false
+    pub next_none : next_job K s from ≡ None → (i : ℕ) → has_step K s i ≡ false
     unfolding next_job
     next_none e i =
         by_order i (length s.jobs)
@@ -69,26 +69,26 @@ module _ (A : Histories) (size : ℕ) (K : Book) where
   open A use {H}
 
   module _ (n : ℕ) (s : State H) (from : ℕ) where
-    pub chosen_on : (j : ℕ) → next_job K s from ≡ At j → chosen_jobs A size K (suc n) s from ≡ j ∷ chosen_jobs A size K n (stepped A size K s j) (place_after j)
+    pub chosen_on : (j : ℕ) → next_job K s from ≡ Some j → chosen_jobs A size K (suc n) s from ≡ j ∷ chosen_jobs A size K n (stepped A size K s j) (place_after j)
     unfolding chosen_jobs
     chosen_on j e = simp (chosen_jobs, e)
 
-    pub chosen_over : next_job K s from ≡ Nothing → chosen_jobs A size K (suc n) s from ≡ []
+    pub chosen_over : next_job K s from ≡ None → chosen_jobs A size K (suc n) s from ≡ []
     unfolding chosen_jobs
     chosen_over e = simp (chosen_jobs, e)
 
   -- the job of a round's first turn is the next one
-  pub first_next : (n : ℕ) (s : State H) (from i : ℕ) → get_elem? (chosen_jobs A size K n s from) 0 ≡ some i → next_job K s from ≡ At i
+  pub first_next : (n : ℕ) (s : State H) (from i : ℕ) → get_elem? (chosen_jobs A size K n s from) 0 ≡ some i → next_job K s from ≡ Some i
   unfolding chosen_jobs
   first_next zero s from i e = impossible cc
   first_next (suc n) s from i e = go (next_job K s from) refl
     where
-      go : (x : JobFound) → next_job K s from ≡ x → next_job K s from ≡ At i
-      go (At j) q =
+      go : (x : JobFound) → next_job K s from ≡ x → next_job K s from ≡ Some i
+      go (Some j) q =
           let c = ap (λ (l : List ℕ). get_elem? l 0) (chosen_on n s from j q) in
           let z : j ≡ i = cc in
-          q ∙ ap At z
-      go Nothing q = let c = ap (λ (l : List ℕ). get_elem? l 0) (chosen_over n s from q) in impossible cc
+          q ∙ ap Some z
+      go None q = let c = ap (λ (l : List ℕ). get_elem? l 0) (chosen_over n s from q) in impossible cc
 
   pub chosen_few : (n : ℕ) (s : State H) (from : ℕ) → length (chosen_jobs A size K n s from) ≤ n
   unfolding chosen_jobs
@@ -97,8 +97,8 @@ module _ (A : Histories) (size : ℕ) (K : Book) where
     where
       go : (x : JobFound) → next_job K s from ≡ x → ((j : ℕ) → length (chosen_jobs A size K n (stepped A size K s j) (place_after j)) ≤ n)
           → length (chosen_jobs A size K (suc n) s from) ≤ suc n
-      go (At j) e next = let r = next j in rw (chosen_on n s from j e) (omega arith)
-      go Nothing e next = rw (chosen_over n s from e) (omega arith)
+      go (Some j) e next = let r = next j in rw (chosen_on n s from j e) (omega arith)
+      go None e next = rw (chosen_over n s from e) (omega arith)
 
   -- after p turns of a round of n turns from s, whose jobs are js: so many turns are left, from this place on
   pub record Later (n p : ℕ) (s : State H) (js : List ℕ) : Type 0 where
@@ -120,7 +120,7 @@ module _ (A : Histories) (size : ℕ) (K : Book) where
           → ((j : ℕ) → place_after j ≤ length (stepped A size K s j).jobs → p ≤ length (chosen_jobs A size K n (stepped A size K s j) (place_after j))
           → Later n p (stepped A size K s j) (chosen_jobs A size K n (stepped A size K s j) (place_after j)))
           → Later (suc n) (suc p) s (chosen_jobs A size K (suc n) s from)
-      go (At j) e next =
+      go (Some j) e next =
           let c = chosen_on n s from j e in
           let k = kept A size K s j in
           let m = k.more in
@@ -129,4 +129,4 @@ module _ (A : Histories) (size : ℕ) (K : Book) where
           let r = next j (omega arith) (omega arith) in
           let a = r.all in
           rw c (record { turns = r.turns; place = r.place; all = omega arith; rest = r.rest; within = r.within; fits = λ ls. r.fits (k.fits ls) })
-      go Nothing e next = let c = chosen_over n s from e in let g = rw c at h in absurd (omega arith)
+      go None e next = let c = chosen_over n s from e in let g = rw c at h in absurd (omega arith)

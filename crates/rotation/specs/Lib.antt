@@ -1,3 +1,4 @@
+pub mod Found
 pub mod Round
 pub mod Scans
 pub mod Fairness

@@ -13,8 +13,8 @@ use Rattle.machine.specs.declared.Event.TheVariants.{StepOf}
 use Rattle.machine.specs.Histories.{Histories}
 use Rattle.machine.specs.States.{Job, State}
 use Rattle.machine.specs.Events.{block_of, fresh_state, outcome_of}
-use Rattle.rotation.specs.declared.JobFound.{JobFound}
-use Rattle.rotation.specs.declared.JobFound.TheVariants.{At, Nothing}
+use Rattle.rotation.specs.Found.{JobFound}
+use Rattle.std.specs.Prelude.{Some, None}
 
 -- the place of a ring of m at which a scan goes on that has come to number i: i itself, or 0 where i is past the last place. "wrapping at the
 -- jobs in use"
@@ -28,8 +28,8 @@ after i m = first_place (suc i) m
 -- of n places of a ring of m, the first from i on that passes the test
 module _ (test : ℕ → Bool) (m : ℕ) where
   unfoldable pub scan : ℕ → ℕ → JobFound
-  scan zero i = Nothing
-  scan (suc n) i = elim (test i) [ true ↦ At i | false ↦ scan n (after i m) ]
+  scan zero i = None
+  scan (suc n) i = elim (test i) [ true ↦ Some i | false ↦ scan n (after i m) ]
 
 module _ {H : Type 0} (K : Book) where
   -- "with a step left"
@@ -59,7 +59,7 @@ module _ (A : Histories) (size : ℕ) (K : Book) where
   -- step left". A job is listed whatever its step is answered: "A blocked step uses a turn."
   unfoldable pub chosen_jobs : ℕ → State H → ℕ → List ℕ
   chosen_jobs zero s from = []
-  chosen_jobs (suc n) s from = elim (next_job K s from) [ At j ↦ j ∷ chosen_jobs n (stepped s j) (place_after j) | Nothing ↦ [] ]
+  chosen_jobs (suc n) s from = elim (next_job K s from) [ Some j ↦ j ∷ chosen_jobs n (stepped s j) (place_after j) | None ↦ [] ]
 
   -- the jobs that a round of at most so many turns steps, job 0 launched at the label l: "job 0 is looked at first"
   abbrev pub round_of : Label → ℕ → List ℕ

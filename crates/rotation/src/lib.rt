@@ -11,13 +11,6 @@ pub struct Pending {
     pub past: u16,
 }
 
-// What a scan finds: the number of a job, or none.
-#[derive(Clone, Copy)]
-pub enum JobFound {
-    At(usize),
-    Nothing,
-}
-
 // Where a scan of so many jobs begins, behind the job that was stepped last.
 pub fn first_place(from: usize, count: usize) -> usize
     ensures { result ≡ first_place from count }
@@ -29,29 +22,29 @@ pub fn first_place(from: usize, count: usize) -> usize
 }
 
 // The first job from a place on that has a step left, of so many jobs in a ring: those ahead, and then those behind the place.
-pub fn next_job(jobs: &[Pending], from: usize, count: usize) -> JobFound
+pub fn next_job(jobs: &[Pending], from: usize, count: usize) -> Option<usize>
     requires { (from < count) × (count ≤ length jobs.now) }
     ensures { result ≡ scan (is_pending jobs.now) count count from }
 {
     let mut at = from;
     while at < count {
         if 0 < jobs[at].past {
-            return JobFound::At(at);
+            return Some(at);
         }
         at = at + 1;
     }
     at = 0;
     while at < from {
         if 0 < jobs[at].past {
-            return JobFound::At(at);
+            return Some(at);
         }
         at = at + 1;
     }
-    JobFound::Nothing
+    None
 }
 
 // The same of jobs that are passed by value: whoever calls it lends no struct.
-pub fn next_of(jobs: [Pending; 64], from: usize, count: usize) -> JobFound
+pub fn next_of(jobs: [Pending; 64], from: usize, count: usize) -> Option<usize>
     requires { (from < count) × (count ≤ 64) }
     ensures { result ≡ scan (is_pending jobs) count count from }
 {

@@ -20,7 +20,7 @@ use Rattle.book.specs.declared.Refusal.TheVariants.{Passed, Refused}
 use Rattle.book.specs.Book.{parse}
 use Rattle.book.specs.Refusals.{unreadable}
 use Rattle.book.specs.Outline.{reading}
-use Rattle.machine.specs.declared.Launch.{Launch}
+use Rattle.machine.specs.Launch.{Launch}
 use Rattle.machine.specs.Events.{first_bound, launched_at, launch_label}
 use Rattle.interpreter.specs.Run.{or_next, unlaunched, refusal_by}
 use Rattle.running.proofs.Drawing.{outline_cells, outline_starts, outline_drawn, read_is, outline_is, bound_is, label_is}

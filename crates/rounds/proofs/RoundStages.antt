@@ -18,7 +18,7 @@ use Rattle.book.specs.Records.{number_at}
 use Rattle.book.specs.Book.{group_of, steps_from, shape_at, value_of, declared_at, step_at, block_at, parse}
 use Rattle.book.specs.Refusals.{cut_fault, in_order, misplaced, order_fault, counted, too_many, beyond, count_fault, above, out_of_range, range_fault, value_named}
 use Rattle.book.specs.Refusals.{cell_named, step_named, dangling, dangles, name_fault, or_refuse, unreadable}
-use Rattle.machine.specs.declared.Launch.{Launch}
+use Rattle.machine.specs.Launch.{Launch}
 use Rattle.machine.specs.Control.{given, on_plain, on_cell}
 use Rattle.machine.specs.Acts.{write_act, start_act}
 use Rattle.machine.specs.Steps.{turn_of}

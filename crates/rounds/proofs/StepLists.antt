@@ -11,7 +11,7 @@ use native.Mathlib.Omega.{arith}
 use lib.ListN.{length, drop}
 use borrow.Author.Tests.{le-ltb}
 use Rattle.labels.proofs.Impossible.{impossible}
-use Rattle.book.specs.declared.Fault.TheVariants.{Nowhere}
+use Rattle.std.specs.Prelude.{None}
 use Rattle.book.specs.declared.Refusal.TheVariants.{Passed}
 use Rattle.book.specs.Control.{sweep, first}
 use Rattle.book.specs.Spans.{byte_at, Bytes}
@@ -25,8 +25,8 @@ use Rattle.events.specs.Bytes.{event_span, next_event, event_cut, offsets_from, 
 use Rattle.events.proofs.Scans.{span_80, next_step}
 use Rattle.events.proofs.Walks.{events_end}
 use Rattle.interpreter.proofs.Events.{step_here}
-use Rattle.rotation.specs.declared.JobFound.{JobFound}
-use Rattle.rotation.specs.declared.JobFound.TheVariants.{At, Nothing}
+use Rattle.rotation.specs.Found.{JobFound}
+use Rattle.std.specs.Prelude.{Some}
 use Rattle.rotation.specs.Round.{next_job, stepped, place_after, chosen_jobs}
 use Rattle.rotation.proofs.Kept.{kept}
 use Rattle.rotation.proofs.Rounds.{next_inside, chosen_on, chosen_over}
@@ -54,7 +54,7 @@ nothing_left (y ∷ ys) (suc o) e = let h = nothing_left ys o e in omega arith
 -- from o on these steps stand in the list l
 record Stand (l : List ℕ) (o : ℕ) (js : List ℕ) : Type 0 where
   events : events_from l o ≡ map StepOf js
-  unfailing : first (event_cut l) (offsets_from l o) ≡ Nowhere
+  unfailing : first (event_cut l) (offsets_from l o) ≡ None
 
 events_on : (l : List ℕ) (o j : ℕ) (js : List ℕ) → offsets_from l o ≡ o ∷ offsets_from l (o + 2) → StepOf j ≡ event_at l o → events_from l (o + 2) ≡ map StepOf js
     → events_from l o ≡ StepOf j ∷ map StepOf js
@@ -102,8 +102,8 @@ module _ (A : Histories) (size : ℕ) (few : size ≤ 256) (K : Book) where
       go : (x : JobFound) → next_job K s from ≡ x
           → ((j : ℕ) → length (stepped A size K s j).jobs ≤ size → Bytes (step_list (chosen_jobs A size K n (stepped A size K s j) (place_after j))))
           → Bytes (step_list (chosen_jobs A size K (suc n) s from))
-      go Nothing e later = rw (chosen_over A size K n s from e) (λ i. omega arith)
-      go (At j) e later = rw (chosen_on A size K n s from j e) bytes
+      go None e later = rw (chosen_over A size K n s from e) (λ i. omega arith)
+      go (Some j) e later = rw (chosen_on A size K n s from j e) bytes
         where
           bytes : Bytes (80 ∷ j ∷ step_list (chosen_jobs A size K n (stepped A size K s j) (place_after j)))
           bytes zero = omega arith

@@ -7,7 +7,7 @@ use Rattle.std.specs.Prelude.{ℕ, ◌*◌, ◌≤◌, ◌≡◌, List, [], ◌�
 use Rattle.book.specs.declared.Refusal.TheVariants.{Passed}
 use Rattle.book.specs.Spans.{Bytes}
 use Rattle.book.specs.Book.{parse}
-use Rattle.machine.specs.declared.Launch.{Launch}
+use Rattle.machine.specs.Launch.{Launch}
 use Rattle.machine.specs.Events.{launch_label}
 use Rattle.interpreter.specs.Run.{ran}
 use Rattle.scheduler.specs.Rounds.{jobs_chosen, rounded}

@@ -9,8 +9,8 @@ use Rattle.book.specs.declared.Refusal.TheVariants.{Passed, Refused}
 use Rattle.book.specs.Book.{parse}
 use Rattle.book.specs.Refusals.{unreadable}
 use Rattle.book.specs.Samples.{book_a, last_write}
-use Rattle.machine.specs.declared.Launch.{Launch}
-use Rattle.machine.specs.declared.Launch.TheVariants.{Default, Given}
+use Rattle.machine.specs.Launch.{Launch}
+use Rattle.std.specs.Prelude.{None, Some}
 use Rattle.machine.specs.declared.Event.TheVariants.{StepOf}
 use Rattle.machine.specs.Histories.{lists}
 use Rattle.machine.specs.Events.{first_bound, launch_label}
@@ -75,26 +75,26 @@ starting_book =
     ∷ []
 
 abbrev pub starting_round : Round
-starting_round = rounded starting_book Default (replicate 576 7) (replicate 3328 8) (replicate 4 9) 4
+starting_round = rounded starting_book None (replicate 576 7) (replicate 3328 8) (replicate 4 9) 4
 
 -- reckoned by hand: at 12 the write is done, and the round ends early; at the default, 4, it is blocked for ever
 pub record RoundCalls : Type 0 where
-  pub bound_turns : (sample_round (Given (label 12)) 7 5).turns ≡ 3
-  pub bound_cells : (sample_round (Given (label 12)) 7 5).run.cell_count ≡ 1
-  pub bound_jobs : (sample_round (Given (label 12)) 7 5).run.job_count ≡ 1
-  pub bound_answers : (sample_round (Given (label 12)) 7 5).run.answered ≡ 0 ∷ 0 ∷ 0 ∷ 9 ∷ 9 ∷ 9 ∷ 9 ∷ []
-  pub bound_cell : take 10 (sample_round (Given (label 12)) 7 5).run.cells ≡ 1 ∷ 9 ∷ 9 ∷ 0 ∷ 7 ∷ 0 ∷ 0 ∷ 0 ∷ 12 ∷ 0 ∷ []
-  pub bound_job : take 4 (sample_round (Given (label 12)) 7 5).run.jobs ≡ 0 ∷ 3 ∷ 12 ∷ 12 ∷ []
-  pub low_turns : (sample_round Default 7 5).turns ≡ 5
-  pub low_answers : (sample_round Default 7 5).run.answered ≡ 0 ∷ 0 ∷ 1 ∷ 1 ∷ 1 ∷ 9 ∷ 9 ∷ []
-  pub low_cell : take 10 (sample_round Default 7 5).run.cells ≡ 1 ∷ 9 ∷ 9 ∷ 0 ∷ 5 ∷ 0 ∷ 0 ∷ 0 ∷ 15 ∷ 0 ∷ []
-  pub low_job : take 4 (sample_round Default 7 5).run.jobs ≡ 0 ∷ 2 ∷ 4 ∷ 4 ∷ []
+  pub bound_turns : (sample_round (Some (label 12)) 7 5).turns ≡ 3
+  pub bound_cells : (sample_round (Some (label 12)) 7 5).run.cell_count ≡ 1
+  pub bound_jobs : (sample_round (Some (label 12)) 7 5).run.job_count ≡ 1
+  pub bound_answers : (sample_round (Some (label 12)) 7 5).run.answered ≡ 0 ∷ 0 ∷ 0 ∷ 9 ∷ 9 ∷ 9 ∷ 9 ∷ []
+  pub bound_cell : take 10 (sample_round (Some (label 12)) 7 5).run.cells ≡ 1 ∷ 9 ∷ 9 ∷ 0 ∷ 7 ∷ 0 ∷ 0 ∷ 0 ∷ 12 ∷ 0 ∷ []
+  pub bound_job : take 4 (sample_round (Some (label 12)) 7 5).run.jobs ≡ 0 ∷ 3 ∷ 12 ∷ 12 ∷ []
+  pub low_turns : (sample_round None 7 5).turns ≡ 5
+  pub low_answers : (sample_round None 7 5).run.answered ≡ 0 ∷ 0 ∷ 1 ∷ 1 ∷ 1 ∷ 9 ∷ 9 ∷ []
+  pub low_cell : take 10 (sample_round None 7 5).run.cells ≡ 1 ∷ 9 ∷ 9 ∷ 0 ∷ 5 ∷ 0 ∷ 0 ∷ 0 ∷ 15 ∷ 0 ∷ []
+  pub low_job : take 4 (sample_round None 7 5).run.jobs ≡ 0 ∷ 2 ∷ 4 ∷ 4 ∷ []
   -- one cell, two jobs, two turns of four
   pub starting_cells : starting_round.run.cell_count ≡ 1
   pub starting_jobs : starting_round.run.job_count ≡ 2
   pub starting_turns : starting_round.turns ≡ 2
   pub starting_answers : starting_round.run.answered ≡ 0 ∷ 0 ∷ 9 ∷ 9 ∷ []
-  pub no_turn : (sample_round Default 0 0).turns ≡ 0
+  pub no_turn : (sample_round None 0 0).turns ≡ 0
   -- 11 by the turns, of which three would be used; 14 behind it; a refusal keeps all bytes
-  pub short_room : sample_round (Given (label 12)) 4 5 ≡ refused_round 11 0 (replicate 576 7) (replicate 3328 8) (replicate 4 9)
-  pub high_launch : sample_round (Given (label 13)) 5 5 ≡ refused_round 14 0 (replicate 576 7) (replicate 3328 8) (replicate 5 9)
+  pub short_room : sample_round (Some (label 12)) 4 5 ≡ refused_round 11 0 (replicate 576 7) (replicate 3328 8) (replicate 4 9)
+  pub high_launch : sample_round (Some (label 13)) 5 5 ≡ refused_round 14 0 (replicate 576 7) (replicate 3328 8) (replicate 5 9)

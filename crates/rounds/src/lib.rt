@@ -9,7 +9,6 @@ ghost use Rattle.rounds.specs.Roundable.{Roundable};
 
 use book::{Outline, Refusal};
 use labels::Label;
-use machine::Launch;
 use scheduler::RoundResult;
 
 // How many turns a round may have.
@@ -72,7 +71,7 @@ fn finish(
 // 15, and then nothing is written; else the answers, and the tables of cells and jobs, unused entries zero, answers beyond the turns used kept.
 pub fn round(
     book: &[u8],
-    launch: Launch,
+    launch: Option<Label>,
     cells: &mut [u8],
     jobs: &mut [u8],
     answers: &mut [u8],

@@ -7,7 +7,7 @@ use mathlib.Core.List.{List, [], ◌∷◌, ◌++◌, append_assoc}
 use Prim.Native.Nat.{ℕ}
 use lib.ListN.{length}
 use borrow.Author.Tests.{not-false}
-use Rattle.book.specs.declared.Fault.TheVariants.{Nowhere}
+use Rattle.std.specs.Prelude.{None}
 use Rattle.book.specs.Control.{sweep, first}
 use Rattle.book.specs.Kinds.{span}
 use Rattle.book.specs.Spans.{offsets_by}
@@ -25,7 +25,7 @@ record Narrow (r : Row) : Type 0 where
   pub narrow : out_of_range (r.bytes ++ behind) 0 ≡ false
 
 abbrev ranged : List ℕ → ℕ → Type 0
-ranged s o = first (out_of_range s) (offsets_by span s o) ≡ Nowhere
+ranged s o = first (out_of_range s) (offsets_by span s o) ≡ None
 
 past : (r : Row) (rs : List Row) (pre : List ℕ) → Sized r → ranged (pre ++ (r.bytes ++ packed_rows rs)) (length pre)
     → Narrow r × ranged (pre ++ (r.bytes ++ packed_rows rs)) (length (pre ++ r.bytes))

@@ -11,7 +11,7 @@ use native.Mathlib.Omega.{arith}
 use lib.Dec.{ltb, leb, eqb}
 use lib.ListN.{length}
 use borrow.Author.Tests.{eq-eqb, ne_eqb, eqb-true, eqb-false, ltb-true, leb-true}
-use Rattle.book.specs.declared.Fault.TheVariants.{Nowhere}
+use Rattle.std.specs.Prelude.{None}
 use Rattle.book.specs.Control.{both, those, while, sweep}
 use Rattle.book.specs.Kinds.{group}
 use Rattle.book.specs.Records.{byte_at, next, records, records_from, in_group}
@@ -53,9 +53,9 @@ module _ (s : List ℕ) where
   -- the first record is in order, and so are those behind it
   record Placed (p o : ℕ) (os : List ℕ) : Type 0 where
     pub follows : Follows p (group (byte_at s o))
-    pub rest : misplaced s (min (group (byte_at s o)) 4) os ≡ Nowhere
+    pub rest : misplaced s (min (group (byte_at s o)) 4) os ≡ None
 
-  placed : (p o : ℕ) (os : List ℕ) → 0 < p → p ≤ 4 → misplaced s p (o ∷ os) ≡ Nowhere → Placed p o os
+  placed : (p o : ℕ) (os : List ℕ) → 0 < p → p ≤ 4 → misplaced s p (o ∷ os) ≡ None → Placed p o os
   unfolding misplaced sweep
   placed p o os h k e = go (in_order p (group (byte_at s o))) refl
     where
@@ -80,7 +80,7 @@ module _ (s : List ℕ) where
   goes o os e = simp (while, eq-eqb _ _ e)
 
   -- a group that comes before p stands no more; before the first block no step stands
-  none_before : (g : ℕ) → g < 4 → (os : List ℕ) (p : ℕ) → g < p → p ≤ 4 → misplaced s p os ≡ Nowhere → those (in_group s g) os ≡ []
+  none_before : (g : ℕ) → g < 4 → (os : List ℕ) (p : ℕ) → g < p → p ≤ 4 → misplaced s p os ≡ None → those (in_group s g) os ≡ []
   unfolding those
   none_before g f [] p h k e = refl
   none_before g f (o ∷ os) p h k e =
@@ -88,7 +88,7 @@ module _ (s : List ℕ) where
       let l = r.follows.not_before in
       miss g o os (λ z. omega arith) ∙ none_before g f os (min (group (byte_at s o)) 4) (omega arith) (omega arith) r.rest
 
-  no_step_yet : (os : List ℕ) (p : ℕ) → 0 < p → p < 4 → misplaced s p os ≡ Nowhere → while (in_group s 5) os ≡ []
+  no_step_yet : (os : List ℕ) (p : ℕ) → 0 < p → p < 4 → misplaced s p os ≡ None → while (in_group s 5) os ≡ []
   unfolding while in_order misplaced sweep
   no_step_yet [] p h k e = refl
   no_step_yet (o ∷ os) p h k e = go (eqb (group (byte_at s o)) 5) refl
@@ -104,7 +104,7 @@ module _ (s : List ℕ) where
   grouped os = those (in_group s 2) os ++ (those (in_group s 3) os ++ (while (in_group s 5) os ++ spread s (those (in_group s 4) os)))
 
   -- the record at o, where those behind it are
-  module _ (o : ℕ) (os : List ℕ) (e : misplaced s (min (group (byte_at s o)) 4) os ≡ Nowhere) (ih : os ≡ grouped os) where
+  module _ (o : ℕ) (os : List ℕ) (e : misplaced s (min (group (byte_at s o)) 4) os ≡ None) (ih : os ≡ grouped os) where
     shape_first : group (byte_at s o) ≡ 2 → o ∷ os ≡ grouped (o ∷ os)
     shape_first g =
         let q : min (group (byte_at s o)) 4 ≡ 2 = omega arith in
@@ -115,7 +115,7 @@ module _ (s : List ℕ) where
     cell_first : group (byte_at s o) ≡ 3 → o ∷ os ≡ grouped (o ∷ os)
     cell_first g =
         let q : min (group (byte_at s o)) 4 ≡ 3 = omega arith in
-        let d : misplaced s 3 os ≡ Nowhere = rw q at e in
+        let d : misplaced s 3 os ≡ None = rw q at e in
         let n : while (in_group s 5) os ≡ [] = no_step_yet os 3 (omega arith) (omega arith) d in
         let m : those (in_group s 2) os ≡ [] = none_before 2 (omega arith) os 3 (omega arith) (omega arith) d in
         rw (miss 2 o os (λ z. omega arith), hit 3 o os g, stops o os (λ z. omega arith), miss 4 o os (λ z. omega arith), m)
@@ -125,7 +125,7 @@ module _ (s : List ℕ) where
     late : 4 ≤ group (byte_at s o) → (those (in_group s 2) os ≡ []) × (those (in_group s 3) os ≡ [])
     late h =
         let q : min (group (byte_at s o)) 4 ≡ 4 = omega arith in
-        let d : misplaced s 4 os ≡ Nowhere = rw q at e in
+        let d : misplaced s 4 os ≡ None = rw q at e in
         (none_before 2 (omega arith) os 4 (omega arith) (omega arith) d, none_before 3 (omega arith) os 4 (omega arith) (omega arith) d)
 
     block_first : records_from s (next s o) ≡ os → group (byte_at s o) ≡ 4 → o ∷ os ≡ grouped (o ∷ os)
@@ -143,7 +143,7 @@ module _ (s : List ℕ) where
         rw (miss 2 o os (λ z. omega arith), miss 3 o os (λ z. omega arith), goes o os g, miss 4 o os (λ z. omega arith), n.0, n.1)
         (ap {B = List ℕ} (λ l. o ∷ l) (ih ∙ rw (n.0, n.1) refl))
 
-  laid : (os : List ℕ) (a p : ℕ) → records_from s a ≡ os → Whole s a → 0 < p → p ≤ 4 → misplaced s p os ≡ Nowhere → os ≡ grouped os
+  laid : (os : List ℕ) (a p : ℕ) → records_from s a ≡ os → Whole s a → 0 < p → p ≤ 4 → misplaced s p os ≡ None → os ≡ grouped os
   unfolding those while spread
   laid [] a p r w h k e = refl
   laid (o ∷ os) a p r w h k e =
@@ -158,15 +158,15 @@ module _ (s : List ℕ) where
       (λ l. up g 4 l (block_first o os m.rest ih (ap (λ x. records_from s (next s x)) i.at ∙ i.rest)) (λ l. step_first o os m.rest ih (omega arith))))
 
   -- C first
-  c_first : (o : ℕ) (os : List ℕ) → misplaced s 0 (o ∷ os) ≡ Nowhere → (group (byte_at s o) ≡ 1) × (misplaced s 1 os ≡ Nowhere)
+  c_first : (o : ℕ) (os : List ℕ) → misplaced s 0 (o ∷ os) ≡ None → (group (byte_at s o) ≡ 1) × (misplaced s 1 os ≡ None)
   unfolding misplaced sweep in_order
   c_first o os e = go (eqb (group (byte_at s o)) 1) refl
     where
-      go : (b : Bool) → eqb (group (byte_at s o)) 1 ≡ b → (group (byte_at s o) ≡ 1) × (misplaced s 1 os ≡ Nowhere)
+      go : (b : Bool) → eqb (group (byte_at s o)) 1 ≡ b → (group (byte_at s o) ≡ 1) × (misplaced s 1 os ≡ None)
       go false q = somewhere (simp (sweep, q) at e)
       go true q = let g : group (byte_at s o) ≡ 1 = eqb-true _ _ q in (g, simp (sweep, g) at e)
 
-  laid_from : (os : List ℕ) → records_from s 0 ≡ os → Whole s 0 → misplaced s 0 os ≡ Nowhere
+  laid_from : (os : List ℕ) → records_from s 0 ≡ os → Whole s 0 → misplaced s 0 os ≡ None
       → os ≡ 0 ∷ (those (in_group s 2) os ++ (those (in_group s 3) os ++ spread s (those (in_group s 4) os)))
   unfolding misplaced sweep
   laid_from [] r w e = somewhere e
@@ -179,15 +179,15 @@ module _ (s : List ℕ) where
       rw (miss 2 o os (λ z. omega arith), miss 3 o os (λ z. omega arith), miss 4 o os (λ z. omega arith), i.at)
       (ap {B = List ℕ} (λ l. 0 ∷ l) (l ∙ rw n refl))
 
-  starts : (os : List ℕ) → records_from s 0 ≡ os → Whole s 0 → misplaced s 0 os ≡ Nowhere → (0 < length s) × (group (byte_at s 0) ≡ 1)
+  starts : (os : List ℕ) → records_from s 0 ≡ os → Whole s 0 → misplaced s 0 os ≡ None → (0 < length s) × (group (byte_at s 0) ≡ 1)
   unfolding misplaced sweep
   starts [] r w e = somewhere e
   starts (o ∷ os) r w e = let i = heads s 0 o os r w in (i.inside, ap (λ x. group (byte_at s x)) (sym i.at) ∙ (c_first o os e).0)
 
-  pub c_stands : Whole s 0 → order_fault s ≡ Nowhere → (0 < length s) × (group (byte_at s 0) ≡ 1)
+  pub c_stands : Whole s 0 → order_fault s ≡ None → (0 < length s) × (group (byte_at s 0) ≡ 1)
   unfolding order_fault
   c_stands w e = starts (records s) refl w e
 
-  pub laid_out : Whole s 0 → order_fault s ≡ Nowhere → records s ≡ 0 ∷ (shapes_of s ++ (cells_of s ++ spread s (blocks_of s)))
+  pub laid_out : Whole s 0 → order_fault s ≡ None → records s ≡ 0 ∷ (shapes_of s ++ (cells_of s ++ spread s (blocks_of s)))
   unfolding order_fault group_of
   laid_out w e = laid_from (records s) refl w e

@@ -15,7 +15,7 @@ use lib.ListN.{length, take, drop, take-append-drop, drop_of_length-le}
 use lib.Seq.{drop-cons, drop-drop}
 use borrow.Author.Tests.{ltb-true, ltb-false}
 use Rattle.labels.proofs.Impossible.{impossible}
-use Rattle.book.specs.declared.Fault.TheVariants.{Nowhere}
+use Rattle.std.specs.Prelude.{None}
 use Rattle.book.specs.Kinds.{span}
 use Rattle.book.specs.Records.{byte_at, next, cut, records_from}
 use Rattle.book.specs.Asked.{Whole}
@@ -84,7 +84,7 @@ module _ (s : List ℕ) where
       rw k.at (ap (λ l. record_at s a ++ l) (r ∙ sym (drop-drop (span (byte_at s a)) a s)) ∙ take-append-drop (span (byte_at s a)) (drop a s))
 
   -- no such row is bad
-  pub none_first : (bad : Row → Bool) → ((o : ℕ) → bad (row_at s o) ≡ false) → (os : List ℕ) (a : ℕ) → first_row bad a (map (row_at s) os) ≡ Nowhere
+  pub none_first : (bad : Row → Bool) → ((o : ℕ) → bad (row_at s o) ≡ false) → (os : List ℕ) (a : ℕ) → first_row bad a (map (row_at s) os) ≡ None
   unfolding first_row
   none_first bad f [] a = refl
   none_first bad f (o ∷ os) a = simp (first_row, f o) (none_first bad f os _)

@@ -12,8 +12,8 @@ use lib.ListN.{length, drop}
 use lib.Seq.{take-append_seam}
 use borrow.Author.Tests.{ltb-false, le-ltb, eqb-true, not-false}
 use Rattle.labels.proofs.Impossible.{impossible}
-use Rattle.book.specs.declared.Fault.{Fault}
-use Rattle.book.specs.declared.Fault.TheVariants.{Nowhere, At}
+use Rattle.book.specs.Missing.{Fault}
+use Rattle.std.specs.Prelude.{None, Some}
 use Rattle.book.specs.declared.Refusal.{Refusal}
 use Rattle.book.specs.declared.Refusal.TheVariants.{Passed, Refused}
 use Rattle.book.specs.Control.{when◌then◌else◌}
@@ -27,27 +27,27 @@ use Rattle.roundtrip.specs.RoundTrip.{output}
 pub record Writable (t : BookTables) : Type 0 where
   pub short : length (bytes_of t) ≤ 32768
   pub counted : total t.blocks ≡ length t.steps
-  pub known : unknown_fault (rows t) ≡ Nowhere
-  pub ordered : order_fault (bytes_of t) ≡ Nowhere
-  pub few : count_fault (bytes_of t) ≡ Nowhere
-  pub used : spare_fault (rows t) ≡ Nowhere
-  pub narrow : range_fault (bytes_of t) ≡ Nowhere
-  pub named : name_fault (bytes_of t) ≡ Nowhere
+  pub known : unknown_fault (rows t) ≡ None
+  pub ordered : order_fault (bytes_of t) ≡ None
+  pub few : count_fault (bytes_of t) ≡ None
+  pub used : spare_fault (rows t) ≡ None
+  pub narrow : range_fault (bytes_of t) ≡ None
+  pub named : name_fault (bytes_of t) ≡ None
 
-stage : (n : ℕ) (f : Fault) (r : Refusal) → or_refuse n f r ≡ Passed → (f ≡ Nowhere) × (r ≡ Passed)
+stage : (n : ℕ) (f : Fault) (r : Refusal) → or_refuse n f r ≡ Passed → (f ≡ None) × (r ≡ Passed)
 unfolding or_refuse
-stage n Nowhere r e = (refl, e)
-stage n (At o) r e = impossible cc
+stage n None r e = (refl, e)
+stage n (Some o) r e = impossible cc
 
 test : (n : ℕ) (b : Bool) (r : Refusal) → (when b then Refused n 0 else r) ≡ Passed → (b ≡ false) × (r ≡ Passed)
 test n true r e = impossible cc
 test n false r e = (refl, e)
 
-neither : (f g : Fault) → earlier f g ≡ Nowhere → (f ≡ Nowhere) × (g ≡ Nowhere)
+neither : (f g : Fault) → earlier f g ≡ None → (f ≡ None) × (g ≡ None)
 unfolding earlier
-neither Nowhere g e = (refl, e)
-neither (At o) Nowhere e = impossible cc
-neither (At o) (At p) e = impossible cc
+neither None g e = (refl, e)
+neither (Some o) None e = impossible cc
+neither (Some o) (Some p) e = impossible cc
 
 wrote : (r : Refusal) (s out : List ℕ) → (written_of r s out).refusal ≡ Passed → r ≡ Passed
 unfolding written_of

@@ -11,7 +11,7 @@ use lib.ListN.{length, drop, length-append, length-map}
 use lib.Seq.{take_at, drop_at}
 use borrow.Author.Tests.{eqb-true, eq-eqb, le-ltb}
 use Rattle.labels.specs.Labels.{label}
-use Rattle.book.specs.declared.Fault.TheVariants.{Nowhere}
+use Rattle.std.specs.Prelude.{None}
 use Rattle.book.specs.declared.Refusal.TheVariants.{Passed}
 use Rattle.book.specs.Spans.{Bytes}
 use Rattle.book.specs.Records.{byte_at, next, cut, records, records_from, in_group}
@@ -53,10 +53,10 @@ totals (b ∷ bs) =
 module _ (s : List ℕ) (b : Bytes s) where
   -- a record that refusal 2 does not hold of; and one that refusal 5 does not
   abbrev Uncut : ℕ → Type 0
-  Uncut o = Cleared {S = Unit {0}} (λ t o. cut s o) (λ t o. t) (λ t. Nowhere) s o
+  Uncut o = Cleared {S = Unit {0}} (λ t o. cut s o) (λ t o. t) (λ t. None) s o
 
   abbrev Narrow : ℕ → Type 0
-  Narrow o = Cleared {S = Unit {0}} (λ t o. out_of_range s o) (λ t o. t) (λ t. Nowhere) s o
+  Narrow o = Cleared {S = Unit {0}} (λ t o. out_of_range s o) (λ t o. t) (λ t. None) s o
 
   abbrev Stands : ℕ → ℕ → Type 0
   Stands g o = Passing Uncut (in_group s g) o
@@ -130,11 +130,11 @@ module _ (s : List ℕ) (b : Bytes s) where
     same_bytes : bytes_of (tables_of (parse s)) ≡ s
     same_bytes = ap packed_rows rows_are ∙ packed_records s (records s) 0 refl whole (omega arith)
 
-    no_unknown : unknown_fault (rows (tables_of (parse s))) ≡ Nowhere
+    no_unknown : unknown_fault (rows (tables_of (parse s))) ≡ None
     unfolding row_at
     no_unknown = ap unknown_fault rows_are ∙ none_first s (λ r. not r.known) (λ o. refl) (records s) 0
 
-    no_spare : spare_fault (rows (tables_of (parse s))) ≡ Nowhere
+    no_spare : spare_fault (rows (tables_of (parse s))) ≡ None
     unfolding row_at
     no_spare = ap spare_fault rows_are ∙ none_first s (λ r. r.spare) (λ o. refl) (records s) 0
 
@@ -144,7 +144,7 @@ module _ (s : List ℕ) (b : Bytes s) where
 
 -- tables that would be written as a book that passes, whose counts add up and whose rows have no fault of their own, pass
 passes : (t : BookTables) (s : List ℕ) (room : ℕ) → Readable s → bytes_of t ≡ s → total t.blocks ≡ length t.steps
-    → unknown_fault (rows t) ≡ Nowhere → spare_fault (rows t) ≡ Nowhere → length s ≤ room → unwritable t room ≡ Passed
+    → unknown_fault (rows t) ≡ None → spare_fault (rows t) ≡ None → length s ≤ room → unwritable t room ≡ Passed
 unfolding unwritable or_refuse earlier
 passes t s room r e n u p h = simp (e, le-ltb _ _ r.short, eq-eqb _ _ n, u, p, r.ordered, r.few, r.narrow, r.named, le-ltb _ _ h)
 

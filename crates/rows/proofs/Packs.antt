@@ -17,7 +17,7 @@ use lib.ListN.{length, take, drop, length-append, get_or-append}
 use lib.Seq.{get_or-append-add, length-take-le, get_or-take}
 use borrow.Author.Tests.{eqb-true, not-false}
 use Rattle.labels.specs.declared.Label.{Label}
-use Rattle.book.specs.declared.Fault.TheVariants.{Nowhere}
+use Rattle.std.specs.Prelude.{None}
 use Rattle.book.specs.Control.{when◌then◌else◌, sweep}
 use Rattle.book.specs.Kinds.{span, group}
 use Rattle.book.specs.Records.{byte_at, number_bytes}
@@ -143,16 +143,16 @@ rows_formed t = (
 )
 
 -- no row is bad
-pub none_bad : (bad : Row → Bool) (o : ℕ) (rs : List Row) → first_row bad o rs ≡ Nowhere → All (λ r. bad r ≡ false) rs
+pub none_bad : (bad : Row → Bool) (o : ℕ) (rs : List Row) → first_row bad o rs ≡ None → All (λ r. bad r ≡ false) rs
 unfolding first_row
 none_bad bad o [] e = tt
 none_bad bad o (r ∷ rs) e = go (bad r) refl (none_bad bad (o + length r.bytes) rs)
   where
-    go : (b : Bool) → bad r ≡ b → (first_row bad (o + length r.bytes) rs ≡ Nowhere → All (λ r. bad r ≡ false) rs) → All (λ r. bad r ≡ false) (r ∷ rs)
+    go : (b : Bool) → bad r ≡ b → (first_row bad (o + length r.bytes) rs ≡ None → All (λ r. bad r ≡ false) rs) → All (λ r. bad r ≡ false) (r ∷ rs)
     go true h n = somewhere (simp (first_row, h) at e)
     go false h n = (h, n (simp (first_row, h) at e))
 
-pub rows_sized : (t : BookTables) → unknown_fault (rows t) ≡ Nowhere → All Sized (rows t)
+pub rows_sized : (t : BookTables) → unknown_fault (rows t) ≡ None → All Sized (rows t)
 rows_sized t e =
     all_both Formed (λ r. not r.known ≡ false) Sized (λ r f n. f (not-false _ n)) (rows t) (rows_formed t) (none_bad (λ r. not r.known) 0 (rows t) e)
 
@@ -191,6 +191,6 @@ packed_whole (r ∷ rs) pre h =
     simp (record_on pre r.bytes (packed_rows rs) a.some a.long, sweep, stands pre r.bytes (packed_rows rs) a.some a.long)
     (rw (append_assoc pre r.bytes (packed_rows rs)) at (packed_whole rs (pre ++ r.bytes) h.1))
 
-pub known_whole : (t : BookTables) → unknown_fault (rows t) ≡ Nowhere → cut_fault (bytes_of t) ≡ Nowhere
+pub known_whole : (t : BookTables) → unknown_fault (rows t) ≡ None → cut_fault (bytes_of t) ≡ None
 unfolding cut_fault
 known_whole t e = packed_whole (rows t) [] (rows_sized t e)

@@ -11,8 +11,8 @@ use lib.Dec.{eqb, ltb}
 use lib.ListN.{length, length-append}
 use borrow.Author.Tests.{ltb-false}
 use Rattle.labels.proofs.Impossible.{impossible}
-use Rattle.book.specs.declared.Fault.{Fault}
-use Rattle.book.specs.declared.Fault.TheVariants.{Nowhere, At}
+use Rattle.book.specs.Missing.{Fault}
+use Rattle.std.specs.Prelude.{None, Some}
 use Rattle.book.specs.declared.Refusal.{Refusal}
 use Rattle.book.specs.declared.Refusal.TheVariants.{Passed, Refused}
 use Rattle.book.specs.Control.{when◌then◌else◌}
@@ -33,9 +33,9 @@ first_placed bad o l (r ∷ rs) h = go (bad r) refl (first_placed bad (o + lengt
 
 earlier_placed : (l : ℕ) (f g : Fault) → PlacedIn l f → PlacedIn l g → PlacedIn l (earlier f g)
 unfolding earlier
-earlier_placed l Nowhere g p q = q
-earlier_placed l (At o) Nowhere p q = p
-earlier_placed l (At o) (At k) p q = at_placed l (min o k) (let h = p o refl in omega arith)
+earlier_placed l None g p q = q
+earlier_placed l (Some o) None p q = p
+earlier_placed l (Some o) (Some k) p q = at_placed l (min o k) (let h = p o refl in omega arith)
 
 at_start : (l m n o : ℕ) → Refused m 0 ≡ Refused n o → o ≤ l
 at_start l m n o e = let z : 0 ≡ o = cc in omega arith

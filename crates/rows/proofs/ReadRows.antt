@@ -11,7 +11,7 @@ use Prim.Native.Nat.{ℕ, ◌+◌}
 use native.Mathlib.Omega.{arith}
 use lib.ListN.{length, take, drop}
 use borrow.Author.Tests.{not-false}
-use Rattle.book.specs.declared.Fault.TheVariants.{Nowhere}
+use Rattle.std.specs.Prelude.{None}
 use Rattle.book.specs.Book.{group_of}
 use Rattle.book.proofs.Every.{All, all_each, all_map}
 use Rattle.rows.specs.Rows.{BookTables, ShapeRow, BlockRow, StepRow, Row, c_row, shape_row, cell_row, block_row, step_row, step_fields, block_rows, rows, bytes_of}
@@ -79,7 +79,7 @@ module _ {X : Type 0} (at : List ℕ → ℕ → X) (view : Row → List Row →
       let i = blocks_long bs behind (all_behind IsKnown (map step_row front) rest h.1) in
       omega arith
 
-module _ (t : BookTables) (known : unknown_fault (rows t) ≡ Nowhere) where
+module _ (t : BookTables) (known : unknown_fault (rows t) ≡ None) where
   all_known : All IsKnown (c_row t.c ∷ shape_part t)
   unfolding rows
   all_known = all_map (λ r n. not-false _ n) (rows t) (none_bad (λ r. not r.known) 0 (rows t) known)

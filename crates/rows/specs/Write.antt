@@ -5,8 +5,8 @@
 --     WriteResult, written                  what is answered, and what the buffer holds after the call
 -- Assumes nothing.
 use Rattle.std.specs.Prelude.{ℕ, ◌+◌, min, Bool, true, false, not, List, [], ◌∷◌, ◌++◌, eqb, ltb, length, drop}
-use Rattle.book.specs.declared.Fault.{Fault}
-use Rattle.book.specs.declared.Fault.TheVariants.{Nowhere, At}
+use Rattle.book.specs.Missing.{Fault}
+use Rattle.std.specs.Prelude.{None, Some}
 use Rattle.book.specs.declared.Refusal.{Refusal}
 use Rattle.book.specs.declared.Refusal.TheVariants.{Passed, Refused}
 use Rattle.book.specs.Numbers.{max_book_bytes}
@@ -16,8 +16,8 @@ use Rattle.rows.specs.Rows.{BookTables, Row, rows, bytes_of, total}
 
 -- the first row that is bad: "the place is the offset where the record would stand"
 unfoldable pub first_row : (Row → Bool) → ℕ → List Row → Fault
-first_row bad o [] = Nowhere
-first_row bad o (r ∷ rs) = elim (bad r) [ true ↦ At o | false ↦ first_row bad (o + length r.bytes) rs ]
+first_row bad o [] = None
+first_row bad o (r ∷ rs) = elim (bad r) [ true ↦ Some o | false ↦ first_row bad (o + length r.bytes) rs ]
 
 -- "A shape row whose kind is no shape kind, or a step row whose kind is no step kind, gets refusal 2 at its place"
 abbrev pub unknown_fault : List Row → Fault
@@ -29,9 +29,9 @@ spare_fault rs = first_row (λ r. r.spare) 0 rs
 
 -- the first record at fault of two stages that count as one
 unfoldable pub earlier : Fault → Fault → Fault
-earlier Nowhere f = f
-earlier (At o) Nowhere = At o
-earlier (At o) (At p) = At (min o p)
+earlier None f = f
+earlier (Some o) None = Some o
+earlier (Some o) (Some p) = Some (min o p)
 
 -- "Tables that break a rule of refusals 1 to 6 get that rule's number": s is what would be written. "Counts that don't add up to the step rows
 -- get refusal 2 at 0, ahead of any other 2." "Errors: 13, after 6, when the output buffer is too short", of `room` bytes.

@@ -17,7 +17,7 @@ use Rattle.book.specs.Refusals.{unreadable}
 use Rattle.book.specs.Outline.{outline_of, bound_at, reading_of, reading}
 use Rattle.book.proofs.Blocks.{get_pad}
 use Rattle.book.proofs.Outlines.{shape_is, cells_are, starts_are, drawn_cell, drawn_start}
-use Rattle.machine.specs.declared.Launch.{Launch}
+use Rattle.machine.specs.Launch.{Launch}
 use Rattle.machine.specs.Events.{no_block, first_bound, launched_at, launch_label}
 use Rattle.interpreter.specs.Loop.{Drawn}
 

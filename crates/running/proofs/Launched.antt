@@ -14,16 +14,15 @@ use borrow.Author.Tests.{le-ltb, le-leb, leb-true}
 use Rattle.labels.proofs.Impossible.{impossible}
 use Rattle.labels.specs.declared.Label.{Label}
 use Rattle.labels.specs.Labels.{reaches, is_above}
-use Rattle.book.specs.declared.Fault.{Fault}
-use Rattle.book.specs.declared.Fault.TheVariants.{Nowhere, At}
+use Rattle.book.specs.Missing.{Fault}
+use Rattle.std.specs.Prelude.{None, Some}
 use Rattle.book.specs.declared.Refusal.{Refusal}
 use Rattle.book.specs.declared.Refusal.TheVariants.{Passed, Refused}
 use Rattle.book.specs.Control.{both}
 use Rattle.book.specs.Book.{parse}
 use Rattle.book.specs.Refusals.{cut_fault, order_fault, count_fault, range_fault, name_fault, or_refuse, unreadable}
 use Rattle.book.proofs.Tests.{if_both}
-use Rattle.machine.specs.declared.Launch.{Launch}
-use Rattle.machine.specs.declared.Launch.TheVariants.{Default, Given}
+use Rattle.machine.specs.Launch.{Launch}
 use Rattle.machine.specs.Events.{first_bound, launched_at, launch_label}
 use Rattle.machine.proofs.Launched.{default_below}
 use Rattle.events.specs.Bytes.{events_in, event_fault, unplayable}
@@ -67,11 +66,11 @@ module _ (book list cells jobs room : List ℕ) (launch : Launch) where
       → ran book launch list cells jobs room ≡ ran_from (earlier book list cells jobs room) l book list cells jobs room
   from_passed l el ef = from l Passed el ef ∙ ap (λ r. ran_from r l book list cells jobs room) (or_passed (earlier book list cells jobs room))
 
-up_to_passes : (b l : Label) → reaches b l ≡ true → unlaunched b (Given l) ≡ Passed
+up_to_passes : (b l : Label) → reaches b l ≡ true → unlaunched b (Some l) ≡ Passed
 unfolding unlaunched
 up_to_passes b l e = simp (le-ltb b.0 l.0 (leb-true l.0 b.0 e))
 
-above_refused : (b l : Label) → is_above l b ≡ true → unlaunched b (Given l) ≡ Refused 14 0
+above_refused : (b l : Label) → is_above l b ≡ true → unlaunched b (Some l) ≡ Refused 14 0
 unfolding unlaunched
 above_refused b l e = simp e
 
@@ -79,9 +78,9 @@ pub launched : Launched
 unfolding launched_at unlaunched
 launched =
     record {
-      up_to = λ book list cells jobs room l e. from_passed book list cells jobs room (Given l) l refl (up_to_passes (first_bound (parse book)) l e);
-      above = λ book list cells jobs room l e. from book list cells jobs room (Given l) l (Refused 14 0) refl (above_refused (first_bound (parse book)) l e);
-      none = λ book list cells jobs room. from_passed book list cells jobs room Default _ refl refl;
+      up_to = λ book list cells jobs room l e. from_passed book list cells jobs room (Some l) l refl (up_to_passes (first_bound (parse book)) l e);
+      above = λ book list cells jobs room l e. from book list cells jobs room (Some l) l (Refused 14 0) refl (above_refused (first_bound (parse book)) l e);
+      none = λ book list cells jobs room. from_passed book list cells jobs room None _ refl refl;
     }
 
 pub at_bound : AtBound
@@ -100,8 +99,8 @@ or_other (Refused n o) s p q = p
 
 stage_other : (n : ℕ) (f : Fault) (r : Refusal) → (n ≡ 14 → ⊥) → Other r → Other (or_refuse n f r)
 unfolding or_refuse
-stage_other n Nowhere r h p = p
-stage_other n (At o) r h p = refused n o h
+stage_other n None r h p = p
+stage_other n (Some o) r h p = refused n o h
 
 read_other : (s : List ℕ) → Other (unreadable s)
 unfolding unreadable
@@ -124,7 +123,7 @@ memory_other events cells jobs room =
     or_other _ _ (if_both Other (both (eqb cells 576) (eqb jobs 3328)) passed (refused 10 0 (λ e. absurd (omega arith))))
     (if_both Other (ltb room events) (refused 11 0 (λ e. absurd (omega arith))) passed)
 
-default_other : (book list : List ℕ) (cells jobs room : ℕ) → Other (unrunnable book Default list cells jobs room)
+default_other : (book list : List ℕ) (cells jobs room : ℕ) → Other (unrunnable book None list cells jobs room)
 unfolding refusal_by unlaunched
 default_other book list cells jobs room =
     or_other _ _ (read_other book) (or_other _ _ (played_other list) (or_other _ _ (memory_other (length (events_in list)) cells jobs room) passed))

@@ -27,8 +27,8 @@ use Rattle.book.specs.Control.{both}
 use Rattle.book.specs.Book.{parse}
 use Rattle.book.specs.Refusals.{unreadable}
 use Rattle.book.specs.Outline.{reading}
-use Rattle.machine.specs.declared.Launch.{Launch}
-use Rattle.machine.specs.declared.Launch.TheVariants.{Default, Given}
+use Rattle.machine.specs.Launch.{Launch}
+use Rattle.std.specs.Prelude.{None, Some}
 use Rattle.machine.specs.Events.{first_bound, launched_at, launch_label}
 use Rattle.events.specs.declared.Scanned.{Scanned}
 use Rattle.events.specs.Bytes.{events_in, unplayable, scan_of, scanned}
@@ -58,11 +58,11 @@ pub ruleset memories = (refuse_cells, refuse_jobs, refuse_room, refuse_none)
 
 -- the launch label's refusal; f is whether it is above the bound
 module _ (bound : Label) (launch : Launch) where
-  pub refuse_none_given : launch ≡ Default → Passed ≡ unlaunched bound launch
+  pub refuse_none_given : launch ≡ None → Passed ≡ unlaunched bound launch
   unfolding unlaunched
   refuse_none_given e = simp e
 
-  module _ (l : Label) (e : launch ≡ Given l) (f : Bool) (ef : f ≡ is_above l bound) where
+  module _ (l : Label) (e : launch ≡ Some l) (f : Bool) (ef : f ≡ is_above l bound) where
     pub refuse_above : f ≡ true → Refused 14 0 ≡ unlaunched bound launch
     unfolding unlaunched
     refuse_above t = simp (e, ← ef, t)
@@ -75,12 +75,12 @@ pub ruleset launches = (refuse_none_given, refuse_above, refuse_not_above)
 
 -- the label of job 0
 module _ (c bound : Label) (launch : Launch) where
-  pub label_given : (l : Label) → launch ≡ Given l → l ≡ launched_at c bound launch
+  pub label_given : (l : Label) → launch ≡ Some l → l ≡ launched_at c bound launch
   unfolding launched_at
   label_given l e = simp e
 
   -- f is whether the bound is above C
-  module _ (e : launch ≡ Default) (f : Bool) (ef : f ≡ is_above bound c) where
+  module _ (e : launch ≡ None) (f : Bool) (ef : f ≡ is_above bound c) where
     pub label_low : f ≡ true → label (c.0 + 1) ≡ launched_at c bound launch
     unfolding launched_at lower
     label_low t = let h = ltb-true c.0 bound.0 (sym ef ∙ t) in simp e (ap label (omega arith))

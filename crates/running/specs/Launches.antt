@@ -12,7 +12,7 @@ use Rattle.book.specs.declared.Refusal.{Refusal}
 use Rattle.book.specs.declared.Refusal.TheVariants.{Passed, Refused}
 use Rattle.book.specs.Book.{Book, parse}
 use Rattle.book.specs.Refusals.{unreadable}
-use Rattle.machine.specs.declared.Launch.TheVariants.{Default, Given}
+use Rattle.std.specs.Prelude.{None, Some}
 use Rattle.machine.specs.Histories.{lists}
 use Rattle.machine.specs.Events.{table_size, first_bound, launch_label, fresh_state, state_after, answers}
 use Rattle.machine.specs.Records.{cell_records, job_records}
@@ -46,22 +46,22 @@ ran_from Passed l book list cells jobs room =
 pub record Launched : Type 0 where
   -- "A run now takes a launch label for job 0, which is also its history."
   pub up_to : (book list cells jobs room : List ℕ) (l : Label) → reaches (first_bound (parse book)) l ≡ true
-      → ran book (Given l) list cells jobs room ≡ ran_from (earlier book list cells jobs room) l book list cells jobs room
+      → ran book (Some l) list cells jobs room ≡ ran_from (earlier book list cells jobs room) l book list cells jobs room
   -- "Errors: 14, after 11, when the launch label is above block 0's bound."
   pub above : (book list cells jobs room : List ℕ) (l : Label) → is_above l (first_bound (parse book)) ≡ true
-      → ran book (Given l) list cells jobs room ≡ ran_from (or_next (earlier book list cells jobs room) (Refused 14 0)) l book list cells jobs room
+      → ran book (Some l) list cells jobs room ≡ ran_from (or_next (earlier book list cells jobs room) (Refused 14 0)) l book list cells jobs room
   -- "Without one it is the smaller of C plus 1 and the bound."
   pub none : (book list cells jobs room : List ℕ)
-      → ran book Default list cells jobs room
+      → ran book None list cells jobs room
       ≡ ran_from (earlier book list cells jobs room) (lower (label ((parse book).c.0 + 1)) (first_bound (parse book))) book list cells jobs room
 
 -- "Existing tools and 01's sample runs relied on the bound, so each of them now passes it, and their recorded runs must give the same
 -- answers". 01: "Job 0 runs block 0 at its bound, history that bound."
 abbrev pub AtBound : Type 0
-AtBound = (book list cells jobs room : List ℕ) → ran book (Given (first_bound (parse book))) list cells jobs room
+AtBound = (book list cells jobs room : List ℕ) → ran book (Some (first_bound (parse book))) list cells jobs room
     ≡ ran_from (earlier book list cells jobs room) (first_bound (parse book)) book list cells jobs room
 
 -- the default is not above the bound, and 14 does not hold
 pub record DefaultPasses : Type 0 where
-  pub below : (K : Book) → reaches (first_bound K) (launch_label K Default) ≡ true
-  pub passes : (book list cells jobs room : List ℕ) (o : ℕ) → (ran book Default list cells jobs room).refusal ≡ Refused 14 o → ⊥
+  pub below : (K : Book) → reaches (first_bound K) (launch_label K None) ≡ true
+  pub passes : (book list cells jobs room : List ℕ) (o : ℕ) → (ran book None list cells jobs room).refusal ≡ Refused 14 o → ⊥

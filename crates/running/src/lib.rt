@@ -11,7 +11,6 @@ use acts::{StoredCell, StoredJob};
 use book::{Outline, Refusal};
 use interpreter::RunResult;
 use labels::Label;
-use machine::Launch;
 
 // The refusal of the lent memory: of the tables, then of the answer buffer.
 fn refuse_memory(count: usize, cells: usize, jobs: usize, room: usize) -> Refusal
@@ -39,10 +38,10 @@ fn refuse_memory(count: usize, cells: usize, jobs: usize, room: usize) -> Refusa
 }
 
 // The refusal of a launch label that is given: above block 0's bound.
-pub fn refuse_launch(bound: Label, launch: Launch) -> Refusal
+pub fn refuse_launch(bound: Label, launch: Option<Label>) -> Refusal
     ensures { result ≡ unlaunched bound launch }
 {
-    if let Launch::Given(l) = launch {
+    if let Some(l) = launch {
         if l.is_above(bound) {
             return Refusal::Refused {
                 number: 14,
@@ -54,10 +53,10 @@ pub fn refuse_launch(bound: Label, launch: Launch) -> Refusal
 }
 
 // The label of job 0: the one that is given, or the smaller of C plus 1 and block 0's bound.
-pub fn launch_label(c: Label, bound: Label, launch: Launch) -> Label
+pub fn launch_label(c: Label, bound: Label, launch: Option<Label>) -> Label
     ensures { result ≡ launched_at c bound launch }
 {
-    if let Launch::Given(l) = launch {
+    if let Some(l) = launch {
         return l;
     }
     // C plus 1 is a byte where the bound is above C, and need not be one else.
@@ -141,7 +140,7 @@ fn finish(
 // tables of cells and jobs, unused entries zero, answers beyond the events kept.
 pub fn run(
     book: &[u8],
-    launch: Launch,
+    launch: Option<Label>,
     list: &[u8],
     cells: &mut [u8],
     jobs: &mut [u8],

@@ -43,8 +43,8 @@ use Rattle.interpreter.proofs.Finishing.{finish_is}
 use Rattle.interpreter.proofs.Stepping.{Stepping}
 use Rattle.interpreter.proofs.Playing.{first_label, first_launched}
 use Rattle.rotation.specs.declared.Pending.{Pending}
-use Rattle.rotation.specs.declared.JobFound.{JobFound}
-use Rattle.rotation.specs.declared.JobFound.TheVariants.{At, Nothing}
+use Rattle.rotation.specs.Found.{JobFound}
+use Rattle.std.specs.Prelude.{Some, None}
 use Rattle.rotation.specs.Round.{first_place, scan, has_step, next_job, stepped, chosen_jobs}
 use Rattle.rotation.specs.Scans.{is_pending}
 use Rattle.rotation.proofs.Ring.{first_inside, scan_hits, scan_same}
@@ -169,7 +169,7 @@ module _ {b : List ℕ} {launch : Label} {shapes offsets starts room_cells room_
       more : most - at ≡ suc (most - (at + 1))
       more = omega arith
 
-      pub round_over : found ≡ Nothing → RoundAt now cells n jobs m pending from at at
+      pub round_over : found ≡ None → RoundAt now cells n jobs m pending from at at
       unfolding chosen_jobs
       round_over e =
           record {
@@ -189,11 +189,11 @@ module _ {b : List ℕ} {launch : Label} {shapes offsets starts room_cells room_
           none : (k : ℕ) → 0 ≡ k - k
           none k = omega arith
 
-      pub round_next : (i : ℕ) → found ≡ At i → next_job (parse b) w.going.state from ≡ At i
+      pub round_next : (i : ℕ) → found ≡ Some i → next_job (parse b) w.going.state from ≡ Some i
       round_next i e = found_is ∙ e
 
     -- the job there has a step left
-    pub round_here : (p : Pending) → ((get_or pending begin p).past ≡ 0 → ⊥) → next_job (parse b) w.going.state from ≡ At begin
+    pub round_here : (p : Pending) → ((get_or pending begin p).past ≡ 0 → ⊥) → next_job (parse b) w.going.state from ≡ Some begin
     unfolding next_job
     round_here p z =
         let u = w.pends.each begin p no_job round_begins.0 in
@@ -204,7 +204,7 @@ module _ {b : List ℕ} {launch : Label} {shapes offsets starts room_cells room_
         (ap (λ (k : ℕ). scan (has_step (parse b) w.going.state) m k begin) one ∙ scan_hits (has_step (parse b) w.going.state) m (m - 1) begin left)
 
   -- job i is next
-  module _ (i : ℕ) (next : next_job (parse b) w.going.state from ≡ At i) where
+  module _ (i : ℕ) (next : next_job (parse b) w.going.state from ≡ Some i) where
     pub round_inside : i < m
     round_inside = let l = next_inside (parse b) w.going.state from i next in omega (arith, jobs_in_use holds)
 
@@ -301,7 +301,7 @@ pub record SomeJob : Type 0 where
   pub i : ℕ
   pub w : Rounding b launch shapes offsets starts room_cells room_jobs before turns now cells n jobs m pending from at most
   pub h : at < most
-  pub next : next_job (parse b) w.going.state from ≡ At i
+  pub next : next_job (parse b) w.going.state from ≡ Some i
 
 -- the same where the cell of its step was looked up
 pub record SomeTurn : Type 0 where

@@ -10,7 +10,7 @@ use Rattle.book.specs.declared.Refusal.TheVariants.{Passed, Refused}
 use Rattle.book.specs.Control.{when◌then◌else◌}
 use Rattle.book.specs.Book.{parse}
 use Rattle.book.specs.Refusals.{unreadable}
-use Rattle.machine.specs.declared.Launch.{Launch}
+use Rattle.machine.specs.Launch.{Launch}
 use Rattle.machine.specs.declared.Event.TheVariants.{StepOf}
 use Rattle.machine.specs.Histories.{lists}
 use Rattle.machine.specs.Events.{table_size, first_bound, launch_label}

@@ -15,7 +15,7 @@ use acts::{Act, Near, Stored, StoredJob};
 use book::{Refusal, kind, value_kind};
 use labels::Label;
 use machine::answer;
-use rotation::{JobFound, Pending};
+use rotation::Pending;
 
 // What a round gives: its refusal, or the cells and jobs in use and the turns used. After a refusal these are 0.
 #[derive(Clone, Copy)]
@@ -109,11 +109,11 @@ pub fn schedule(
         if pending[begin].past == 0 {
             let found = rotation::next_of(pending, begin, m);
             match found {
-                JobFound::Nothing => {
+                None => {
                     most = at;
                     continue;
                 }
-                JobFound::At(next) => {
+                Some(next) => {
                     i = next;
                 }
             }

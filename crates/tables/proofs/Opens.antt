@@ -13,8 +13,8 @@ use borrow.Author.Tests.{lt-ltb, le-ltb}
 use Rattle.labels.proofs.Impossible.{impossible}
 use Rattle.labels.specs.Labels.{label}
 use Rattle.book.specs.declared.Declared.{Declared}
-use Rattle.book.specs.declared.CellAt.{CellAt}
-use Rattle.book.specs.declared.CellAt.TheVariants.{NoCell, CellThere}
+use Rattle.book.specs.Missing.{CellAt}
+use Rattle.std.specs.Prelude.{None, Some}
 use Rattle.book.specs.declared.Value.{Value}
 use Rattle.book.specs.Book.{declared_at}
 use Rattle.book.specs.Stretch.{cell_found}
@@ -45,18 +45,18 @@ module _ (b os : List ℕ) (cells : List StoredCell) (i : ℕ) (w : Filling b os
       rw (← e) w.front ∙ ap (opened_cells b) (ap (λ n. take n os) e ∙ take-length os)
 
   module _ (h : i < length os) (o : ℕ) (eo : o ≡ get_or os i 0) (x : CellAt) (ex : x ≡ cell_found b o) where
-    found : x ≡ CellThere (declared_at b o)
+    found : x ≡ Some (declared_at b o)
     found = ex ∙ rw eo (w.listed.there i h)
 
-    pub fill_none : x ≡ NoCell → take (length os) cells ≡ opened_cells b os
+    pub fill_none : x ≡ None → take (length os) cells ≡ opened_cells b os
     fill_none e =
-        let y : NoCell ≡ CellThere (declared_at b o) = sym e ∙ found in
+        let y : None ≡ Some (declared_at b o) = sym e ∙ found in
         impossible cc
 
-    pub fill_next : (d : Declared) (c : StoredCell) → x ≡ CellThere d → c ≡ opened_by d → Filling b os (set cells i c) (i + 1)
+    pub fill_next : (d : Declared) (c : StoredCell) → x ≡ Some d → c ≡ opened_by d → Filling b os (set cells i c) (i + 1)
     unfolding opened_cells
     fill_next d c e ec =
-        let y : CellThere d ≡ CellThere (declared_at b o) = sym e ∙ found in
+        let y : Some d ≡ Some (declared_at b o) = sym e ∙ found in
         let ed : d ≡ declared_at b (get_or os i 0) = let q : d ≡ declared_at b o = cc in q ∙ ap (declared_at b) eo in
         let u : i + 1 ≡ suc i = omega arith in
         record {

@@ -5,7 +5,7 @@ ghost use Rattle.machine.specs.Records.{kind_of, number_of};
 ghost use Rattle.tables.specs.Opening.{start_in, opened_by, opened_cells};
 
 use acts::{StoredCell, StoredJob};
-use book::{CellAt, Declared, Value, value_kind};
+use book::{Declared, Value, value_kind};
 use labels::Label;
 
 fn kind_in(v: Value) -> u8
@@ -61,7 +61,7 @@ pub fn open_cells(book: &[u8], offsets: &[u16]) -> [StoredCell; StoredJob::TABLE
     let mut i: usize = 0;
     while i < offsets.len() {
         let o = records::offset_of(offsets[i]);
-        let CellAt::CellThere(d) = decode::cell_at(book, o) else {
+        let Some(d) = decode::cell_at(book, o) else {
             return cells;
         };
         let cell = open_cell(d);

@@ -8,8 +8,8 @@ use Prim.Native.Nat.{ℕ, ◌≤◌}
 use native.Mathlib.Omega.{arith}
 use lib.ListN.{length}
 use Rattle.labels.proofs.Impossible.{impossible}
-use Rattle.book.specs.declared.Fault.{Fault}
-use Rattle.book.specs.declared.Fault.TheVariants.{Nowhere, At}
+use Rattle.book.specs.Missing.{Fault}
+use Rattle.std.specs.Prelude.{None, Some}
 use Rattle.book.specs.declared.Refusal.{Refusal}
 use Rattle.book.specs.declared.Refusal.TheVariants.{Passed}
 use Rattle.book.specs.declared.Refusal.TheVariants as R
@@ -41,8 +41,8 @@ module _ (B : View) (at : ℕ → Step) (l : ℕ) where
 
 or_placed : (l : ℕ) (f g : Fault) → PlacedIn l f → PlacedIn l g → PlacedIn l (or_then f g)
 unfolding or_then
-or_placed l Nowhere g p q = q
-or_placed l (At o) g p q = p
+or_placed l None g p q = q
+or_placed l (Some o) g p q = p
 
 -- refusals 7 and 8
 module _ (B : View) (s : List ℕ) where
@@ -58,14 +58,14 @@ module _ (B : View) (s : List ℕ) where
 -- a refusal is at most at l
 stage : (l m : ℕ) (f : Fault) (v : Verdict) → PlacedIn l f → ((n o : ℕ) → v ≡ Refused n o → o ≤ l) → (n o : ℕ) → or_refused m f v ≡ Refused n o → o ≤ l
 unfolding or_refused
-stage l m Nowhere v p q n o e = q n o e
-stage l m (At k) v p q n o e = let z : k ≡ o = cc in omega (arith, p k refl)
+stage l m None v p q n o e = q n o e
+stage l m (Some k) v p q n o e = let z : k ≡ o = cc in omega (arith, p k refl)
 
 -- what acceptance reports
 through : (m : ℕ) (f : Fault) (v : Verdict) (i k b p : ℕ) → or_refused m f v ≡ Accepted i k b p → v ≡ Accepted i k b p
 unfolding or_refused
-through m Nowhere v i k b p e = e
-through m (At o) v i k b p e = impossible cc
+through m None v i k b p e = e
+through m (Some o) v i k b p e = impossible cc
 
 pub record Counted (i k b p : ℕ) : Type 0 where
   pub shapes : i ≤ 32

@@ -8,8 +8,8 @@ use Rattle.std.specs.Prelude.{ℕ, Bool, true, false, not, List, [], ◌∷◌, 
 use Rattle.std.proofs.Math.Option.{Option, none, some}
 use Rattle.labels.specs.declared.Label.{Label}
 use Rattle.labels.specs.Labels.{label, lower, reaches, is_met, covers, capped}
-use Rattle.book.specs.declared.Fault.{Fault}
-use Rattle.book.specs.declared.Fault.TheVariants.{Nowhere, At}
+use Rattle.book.specs.Missing.{Fault}
+use Rattle.std.specs.Prelude.{None, Some}
 use Rattle.book.specs.declared.Shape.{Shape}
 use Rattle.book.specs.declared.Step.{Step}
 use Rattle.book.specs.declared.Step.TheVariants.{Put, Name, Add, New, Read, Write, Relabel, Lower, Start, Exec, Choose}
@@ -202,5 +202,5 @@ module _ (B : View) where
   -- The first of the steps at os that breaks its rule, from the state t on: "After a stuck step the rest of the block passes."
   module _ (at : ℕ → Step) where
     unfoldable pub fault : State → List ℕ → Fault
-    fault t [] = Nowhere
-    fault t (o ∷ os) = elim (step_rule t (at o)) [ passes u ↦ fault u os | stuck ↦ Nowhere | breaks ↦ At o ]
+    fault t [] = None
+    fault t (o ∷ os) = elim (step_rule t (at o)) [ passes u ↦ fault u os | stuck ↦ None | breaks ↦ Some o ]

@@ -4,8 +4,8 @@
 -- Assumes nothing.
 use Rattle.std.specs.Prelude.{ℕ, not, List, [], ◌∷◌, length}
 use Rattle.labels.specs.Labels.{label}
-use Rattle.book.specs.declared.Fault.{Fault}
-use Rattle.book.specs.declared.Fault.TheVariants.{Nowhere, At}
+use Rattle.book.specs.Missing.{Fault}
+use Rattle.std.specs.Prelude.{None, Some}
 use Rattle.book.specs.declared.Refusal.{Refusal}
 use Rattle.book.specs.declared.Refusal.TheVariants.{Passed}
 use Rattle.book.specs.declared.Refusal.TheVariants as R
@@ -24,8 +24,8 @@ cell_fault B s os = first (λ o. not (declared_ok B (declared_at s o))) os
 
 -- the first fault
 unfoldable pub or_then : Fault → Fault → Fault
-or_then Nowhere f = f
-or_then (At o) f = At o
+or_then None f = f
+or_then (Some o) f = Some o
 
 -- the block at o: "Each block's steps are checked as their own stretch of the book."
 unfoldable pub block_fault : View → List ℕ → ℕ → Fault
@@ -33,12 +33,12 @@ block_fault B s o = fault B (step_at s) (fresh (label (bound_at s o))) (steps_fr
 
 -- 8: "A step breaks its typing rule."
 unfoldable pub step_fault : View → List ℕ → List ℕ → Fault
-step_fault B s [] = Nowhere
+step_fault B s [] = None
 step_fault B s (o ∷ os) = or_then (block_fault B s o) (step_fault B s os)
 
 unfoldable pub or_refused : ℕ → Fault → Verdict → Verdict
-or_refused n Nowhere v = v
-or_refused n (At o) v = Refused n o
+or_refused n None v = v
+or_refused n (Some o) v = Refused n o
 
 -- a readable book's verdict: "Acceptance reports the shapes, cells, blocks and steps in the book"
 unfoldable pub typed : List ℕ → Verdict

@@ -10,8 +10,8 @@ use Prim.Native.Nat.{ℕ, ◌+◌, min}
 use lib.Dec.{eqb}
 use lib.ListN.{length}
 use borrow.Author.Tests.{eq-eqb}
-use Rattle.book.specs.declared.Fault.{Fault}
-use Rattle.book.specs.declared.Fault.TheVariants.{Nowhere}
+use Rattle.book.specs.Missing.{Fault}
+use Rattle.std.specs.Prelude.{None}
 use Rattle.book.specs.declared.Tally.{Tally}
 use Rattle.book.specs.Control.{when◌then◌else◌, sweep, first}
 use Rattle.book.specs.Kinds.{span, group}
@@ -27,7 +27,7 @@ use Rattle.rows.proofs.Seen.{row_group}
 
 -- a sweep past its first member
 on_past : {S : Type 0} (bad : S → ℕ → Bool) (on : S → ℕ → S) (end : S → Fault) (t u : S) (o : ℕ) (os ps : List ℕ)
-    → os ≡ o ∷ ps → bad t o ≡ false → on t o ≡ u → sweep bad on end u ps ≡ Nowhere → sweep bad on end t os ≡ Nowhere
+    → os ≡ o ∷ ps → bad t o ≡ false → on t o ≡ u → sweep bad on end u ps ≡ None → sweep bad on end t os ≡ None
 unfolding sweep
 on_past bad on end t u o os ps l b e h = simp (l, sweep, b, e) h
 
@@ -45,17 +45,17 @@ module _ (is_cell_shape : ℕ → Bool) (cells blocks : ℕ) where
   Through p n [] = p ≡ 4
   Through p n (r ∷ rs) = Passes p n r × Through (min (row_group r) 4) (counted n (row_group r)) rs
 
-  pub through_known : (rs : List Row) (o p : ℕ) (n : Tally) → Through p n rs → first_row (λ r. not r.known) o rs ≡ Nowhere
+  pub through_known : (rs : List Row) (o p : ℕ) (n : Tally) → Through p n rs → first_row (λ r. not r.known) o rs ≡ None
   unfolding first_row
   through_known [] o p n h = refl
   through_known (r ∷ rs) o p n h = simp (first_row, h.0.known) (through_known rs (o + length r.bytes) _ _ h.1)
 
   -- what each stage finds from an offset on
   pub record Swept (s : List ℕ) (o p : ℕ) (n : Tally) : Type 0 where
-    pub ordered : misplaced s p (offsets_by span s o) ≡ Nowhere
-    pub few : beyond s n (offsets_by span s o) ≡ Nowhere
-    pub narrow : first (out_of_range s) (offsets_by span s o) ≡ Nowhere
-    pub named : dangles is_cell_shape cells blocks s n.shapes (offsets_by span s o) ≡ Nowhere
+    pub ordered : misplaced s p (offsets_by span s o) ≡ None
+    pub few : beyond s n (offsets_by span s o) ≡ None
+    pub narrow : first (out_of_range s) (offsets_by span s o) ≡ None
+    pub named : dangles is_cell_shape cells blocks s n.shapes (offsets_by span s o) ≡ None
 
   -- the shapes of a tally are counted as those before a record are
   shapes_on : (n : Tally) (g : ℕ) → (counted n g).shapes ≡ (when eqb g 2 then n.shapes + 1 else n.shapes)

@@ -11,7 +11,7 @@ use native.Mathlib.Omega.{arith}
 use lib.ListN.{length, get_or, get_or-map, take, drop, length-map, length-drop, take-append-drop}
 use lib.Seq.{length-take-le}
 use borrow.Author.Tests.{le-ltb, le-leb, eq-eqb}
-use Rattle.book.specs.declared.Fault.TheVariants.{Nowhere}
+use Rattle.std.specs.Prelude.{None}
 use Rattle.book.specs.declared.Tally.{Tally}
 use Rattle.book.specs.declared.Shape.{Shape}
 use Rattle.book.specs.Kinds.{span, group}
@@ -160,7 +160,7 @@ kind_tells r e =
     record { of = shape_of r e; same = λ rs. rw w.bytes (kind_kept r.kind w.of r.x r.y (packed_rows rs)) }
 
 -- what is read of tables whose rows are known
-module _ (t : BookTables) (all : unknown_fault (rows t) ≡ Nowhere) where
+module _ (t : BookTables) (all : unknown_fault (rows t) ≡ None) where
   abbrev s : List ℕ
   s = bytes_of t
 

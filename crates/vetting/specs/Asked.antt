@@ -5,7 +5,7 @@
 --     Each, ShapesSound, CellsSound, ..           the rows of a table; their number
 -- Assumes nothing.
 use Rattle.std.specs.Prelude.{ℕ, suc, ◌<◌, ◌≤◌, ◌≡◌, true, List, [], ◌∷◌, map, eqb, length, get_or}
-use Rattle.book.specs.declared.Fault.TheVariants.{Nowhere}
+use Rattle.std.specs.Prelude.{None}
 use Rattle.book.specs.Numbers.{plain_shape_kind, code_shape_kind, cell_shape_kind, put_kind, name_kind, code_kind, add_kind, new_kind, read_kind, write_kind, relabel_kind}
 use Rattle.book.specs.Numbers.{lower_kind, start_kind, exec_kind, choose_kind, plain_value, cell_value, code_value, max_label, max_register, max_shapes, max_cells, max_blocks, max_steps}
 use Rattle.book.specs.Refusals.{order_fault, count_fault, range_fault, name_fault}
@@ -14,11 +14,11 @@ use Rattle.rows.specs.Write.{unknown_fault}
 
 pub record SoundTables (t : BookTables) : Type 0 where
   pub counted : eqb (total t.blocks) (length t.steps) ≡ true
-  pub known : unknown_fault (rows t) ≡ Nowhere
-  pub ordered : order_fault (bytes_of t) ≡ Nowhere
-  pub few : count_fault (bytes_of t) ≡ Nowhere
-  pub narrow : range_fault (bytes_of t) ≡ Nowhere
-  pub named : name_fault (bytes_of t) ≡ Nowhere
+  pub known : unknown_fault (rows t) ≡ None
+  pub ordered : order_fault (bytes_of t) ≡ None
+  pub few : count_fault (bytes_of t) ≡ None
+  pub narrow : range_fault (bytes_of t) ≡ None
+  pub named : name_fault (bytes_of t) ≡ None
 
 -- a shape row is a cell shape
 pub record CellShape (shapes : List ShapeRow) (i : ℕ) : Type 0 where

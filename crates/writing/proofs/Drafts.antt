@@ -13,8 +13,8 @@ use native.Mathlib.Omega.{arith}
 use lib.ListN.{length, take, drop, get_or, set, length-set, length-append, length-drop}
 use native.Mathlib.Numerals.{add-one, add-two, add-three}
 use lib.Seq.{sets-eq, take_at, drop-append-add, drop-drop, length-take-le, take-append-add, take-append-le}
-use Rattle.book.specs.declared.Fault.{Fault}
-use Rattle.book.specs.declared.Fault.TheVariants.{Nowhere, At}
+use Rattle.book.specs.Missing.{Fault}
+use Rattle.std.specs.Prelude.{None, Some}
 use Rattle.book.proofs.Spans.{packed_join}
 use Rattle.records.specs.Copies.{put_at}
 use Rattle.writing.specs.declared.entries.Entry.{Entry}
@@ -23,15 +23,15 @@ use Rattle.rows.specs.Rows.{Row, shape_row, cell_row, step_row, shape_row_in, ce
 use Rattle.rows.specs.Write.{first_row}
 use Rattle.writing.specs.Asked.{Enters, noted, penned, Laid, Lays, shapes_laid, cells_laid, steps_laid}
 
-pub note_kept : (f : Fault) (o : ℕ) (bad : Bool) (at : ℕ) → f ≡ At o → At o ≡ noted f bad at
+pub note_kept : (f : Fault) (o : ℕ) (bad : Bool) (at : ℕ) → f ≡ Some o → Some o ≡ noted f bad at
 unfolding noted
 note_kept f o bad at e = simp e
 
-pub note_new : (f : Fault) (bad : Bool) (at : ℕ) → f ≡ Nowhere → bad ≡ true → At at ≡ noted f bad at
+pub note_new : (f : Fault) (bad : Bool) (at : ℕ) → f ≡ None → bad ≡ true → Some at ≡ noted f bad at
 unfolding noted
 note_new f bad at e h = simp (e, h)
 
-pub note_none : (f : Fault) (bad : Bool) (at : ℕ) → f ≡ Nowhere → bad ≡ false → Nowhere ≡ noted f bad at
+pub note_none : (f : Fault) (bad : Bool) (at : ℕ) → f ≡ None → bad ≡ false → None ≡ noted f bad at
 unfolding noted
 note_none f bad at e h = simp (e, h)
 
@@ -111,8 +111,8 @@ first_more : (bad : Row → Bool) (o : ℕ) (rs : List Row) (r : Row)
 unfolding first_row noted
 first_more bad o [] r = go (bad r)
   where
-    go : (b : Bool) → elim b [ true ↦ At o | false ↦ Nowhere ] ≡ noted Nowhere b (o + 0)
-    go true = ap At (omega arith)
+    go : (b : Bool) → elim b [ true ↦ Some o | false ↦ None ] ≡ noted None b (o + 0)
+    go true = ap Some (omega arith)
     go false = refl
 first_more bad o (x ∷ xs) r = go (bad x) refl (first_more bad (o + length x.bytes) xs r)
   where

@@ -13,8 +13,8 @@ use native.Mathlib.Omega.{arith}
 use lib.Dec.{eqb, ltb}
 use lib.ListN.{length}
 use borrow.Author.Tests.{ne_eqb, lt-ltb, le-ltb}
-use Rattle.book.specs.declared.Fault.{Fault}
-use Rattle.book.specs.declared.Fault.TheVariants.{Nowhere, At}
+use Rattle.book.specs.Missing.{Fault}
+use Rattle.std.specs.Prelude.{None, Some}
 use Rattle.book.specs.declared.Refusal.{Refusal}
 use Rattle.book.specs.declared.Refusal.TheVariants.{Passed, Refused}
 use Rattle.book.specs.declared.Reading.{Reading}
@@ -32,14 +32,14 @@ use Rattle.writing.specs.Asked.{Drafted, earlier_of, joined, judged, unsound, ro
 
 -- a refusal r, and where the first spare field stands
 module _ (r : Refusal) (f : Fault) where
-  pub join_none : f ≡ Nowhere → r ≡ joined r f
+  pub join_none : f ≡ None → r ≡ joined r f
   unfolding joined
   join_none e = go r f e
     where
-      go : (r : Refusal) (f : Fault) → f ≡ Nowhere → r ≡ joined r f
+      go : (r : Refusal) (f : Fault) → f ≡ None → r ≡ joined r f
       go r f e = rw e refl
 
-  module _ (o : ℕ) (e : f ≡ At o) where
+  module _ (o : ℕ) (e : f ≡ Some o) where
     pub join_passed : r ≡ Passed → Refused 5 o ≡ joined r f
     unfolding joined
     join_passed h = rw (h, e) refl
@@ -74,14 +74,14 @@ pub ruleset earliers = (earlier_first, earlier_last, earlier_other)
 by_reader : (a b c d f : Fault)
     → joined (or_refuse 3 a (or_refuse 4 b (or_refuse 5 c (or_refuse 6 d Passed)))) f ≡ or_refuse 3 a (or_refuse 4 b (or_refuse 5 (earlier f c) (or_refuse 6 d Passed)))
 unfolding joined or_refuse earlier earlier_of
-by_reader a b c d Nowhere = refl
-by_reader (At p) b c d (At o) = refl
-by_reader Nowhere (At p) c d (At o) = refl
-by_reader Nowhere Nowhere (At p) d (At o) = refl
-by_reader Nowhere Nowhere Nowhere (At p) (At o) = refl
-by_reader Nowhere Nowhere Nowhere Nowhere (At o) = refl
+by_reader a b c d None = refl
+by_reader (Some p) b c d (Some o) = refl
+by_reader None (Some p) c d (Some o) = refl
+by_reader None None (Some p) d (Some o) = refl
+by_reader None None None (Some p) (Some o) = refl
+by_reader None None None None (Some o) = refl
 
-readable_so : (s : List ℕ) → length s ≤ 32768 → cut_fault s ≡ Nowhere
+readable_so : (s : List ℕ) → length s ≤ 32768 → cut_fault s ≡ None
     → unreadable s ≡ or_refuse 3 (order_fault s) (or_refuse 4 (count_fault s) (or_refuse 5 (range_fault s) (or_refuse 6 (name_fault s) Passed)))
 unfolding unreadable or_refuse
 readable_so s l c = rw (le-ltb 32768 (length s) l, c) refl
@@ -91,7 +91,7 @@ unfolding reading_of
 read_refusal Passed s = refl
 read_refusal (Refused n o) s = refl
 
-pub judge_is : (s : List ℕ) (f : Fault) (x : Reading) (r : Refusal) → length s ≤ 32768 → cut_fault s ≡ Nowhere → x ≡ reading s → r ≡ joined x.refusal f
+pub judge_is : (s : List ℕ) (f : Fault) (x : Reading) (r : Refusal) → length s ≤ 32768 → cut_fault s ≡ None → x ≡ reading s → r ≡ joined x.refusal f
     → r ≡ judged s f
 unfolding judged
 judge_is s f x r l c e er =
@@ -101,7 +101,7 @@ judge_is s f x r l c e er =
 
 -- refusals 2 to 6 of tables, from their draft
 module _ (t : BookTables) (s : List ℕ) (p : Pen) (k : Drafted t s p) where
-  pub unsound_whole : p.strange ≡ Nowhere → (length s ≤ 32768) × (cut_fault s ≡ Nowhere)
+  pub unsound_whole : p.strange ≡ None → (length s ≤ 32768) × (cut_fault s ≡ None)
   unsound_whole e = (k.short, rw k.bytes (known_whole t (sym k.strange ∙ e)))
 
   module _ (b : Bool) (e : b ≡ eqb (total t.blocks) (length t.steps)) where
@@ -110,18 +110,18 @@ module _ (t : BookTables) (s : List ℕ) (p : Pen) (k : Drafted t s p) where
     unsound_counts h = let z : eqb (total t.blocks) (length t.steps) ≡ false = sym e ∙ h in simp z
 
     module _ (h : b ≡ true) where
-      pub unsound_strange : (o : ℕ) → p.strange ≡ At o → Refused 2 o ≡ unsound t
+      pub unsound_strange : (o : ℕ) → p.strange ≡ Some o → Refused 2 o ≡ unsound t
       unfolding unsound or_refuse
       unsound_strange o f =
           let z : eqb (total t.blocks) (length t.steps) ≡ true = sym e ∙ h in
-          let y : unknown_fault (rows t) ≡ At o = sym k.strange ∙ f in
+          let y : unknown_fault (rows t) ≡ Some o = sym k.strange ∙ f in
           simp (z, y)
 
-      pub unsound_judged : p.strange ≡ Nowhere → (r : Refusal) → r ≡ judged s p.spare → r ≡ unsound t
+      pub unsound_judged : p.strange ≡ None → (r : Refusal) → r ≡ judged s p.spare → r ≡ unsound t
       unfolding unsound or_refuse
       unsound_judged f r er =
           let z : eqb (total t.blocks) (length t.steps) ≡ true = sym e ∙ h in
-          let y : unknown_fault (rows t) ≡ Nowhere = sym k.strange ∙ f in
+          let y : unknown_fault (rows t) ≡ None = sym k.strange ∙ f in
           let x : r ≡ judged (bytes_of t) (spare_fault (rows t)) = er ∙ rw (k.bytes, k.spare) refl in
           simp (z, y) x
 
@@ -130,8 +130,8 @@ module _ (t : BookTables) (s : List ℕ) (p : Pen) (k : Drafted t s p) where
   unfolding unsound judged or_refuse
   unsound_vetted b f h r er =
       let v = f h in
-      let x : joined Passed p.spare ≡ or_refuse 5 (earlier p.spare Nowhere) Passed = by_reader Nowhere Nowhere Nowhere Nowhere p.spare in
-      er ∙ x ∙ ap (λ f. or_refuse 5 (earlier f Nowhere) Passed) k.spare
+      let x : joined Passed p.spare ≡ or_refuse 5 (earlier p.spare None) Passed = by_reader None None None None p.spare in
+      er ∙ x ∙ ap (λ f. or_refuse 5 (earlier f None) Passed) k.spare
       ∙ sym (rw (v.counted, v.known, v.ordered, v.few, v.narrow, v.named) refl)
 
 -- what goes into the buffer; q is the refusal before 13
@@ -160,12 +160,12 @@ room_last : (e : Bool) (u a b c d : Fault) (size room : ℕ)
     ≡ roomed (when not e then Refused 2 0 else or_refuse 2 u (or_refuse 3 a (or_refuse 4 b (or_refuse 5 c (or_refuse 6 d Passed))))) size room
 unfolding or_refuse roomed
 room_last false u a b c d size room = refl
-room_last true (At o) a b c d size room = refl
-room_last true Nowhere (At o) b c d size room = refl
-room_last true Nowhere Nowhere (At o) c d size room = refl
-room_last true Nowhere Nowhere Nowhere (At o) d size room = refl
-room_last true Nowhere Nowhere Nowhere Nowhere (At o) size room = refl
-room_last true Nowhere Nowhere Nowhere Nowhere Nowhere size room = refl
+room_last true (Some o) a b c d size room = refl
+room_last true None (Some o) b c d size room = refl
+room_last true None None (Some o) c d size room = refl
+room_last true None None None (Some o) d size room = refl
+room_last true None None None None (Some o) size room = refl
+room_last true None None None None None size room = refl
 
 module _ (t : BookTables) where
   room_is : (room : ℕ) → length (bytes_of t) ≤ 32768 → unwritable t room ≡ roomed (unsound t) (length (bytes_of t)) room

@@ -10,8 +10,8 @@
 --     roomed                        with 13
 -- Assumes nothing.
 use Rattle.std.specs.Prelude.{ℕ, ◌+◌, ◌*◌, ◌≤◌, min, ◌≡◌, Bool, true, false, not, List, ◌++◌, eqb, ltb, length, take}
-use Rattle.book.specs.declared.Fault.{Fault}
-use Rattle.book.specs.declared.Fault.TheVariants.{Nowhere, At}
+use Rattle.book.specs.Missing.{Fault}
+use Rattle.std.specs.Prelude.{None, Some}
 use Rattle.book.specs.declared.Refusal.{Refusal}
 use Rattle.book.specs.declared.Refusal.TheVariants.{Passed, Refused}
 use Rattle.book.specs.Numbers.{max_book_bytes}
@@ -36,8 +36,8 @@ behind n y z number = either number (either (both (ltb n 4) (not (eqb z 0))) (bo
 
 -- the first fault, with a row at an offset that may be at fault behind it
 unfoldable pub noted : Fault → Bool → ℕ → Fault
-noted (At o) bad at = At o
-noted Nowhere bad at = elim bad [ true ↦ At at | false ↦ Nowhere ]
+noted (Some o) bad at = Some o
+noted None bad at = elim bad [ true ↦ Some at | false ↦ None ]
 
 abbrev pub penned : Pen → Entry → Pen
 penned p e =
@@ -45,7 +45,7 @@ penned p e =
 
 -- before the first row
 abbrev pub clear_pen : Pen
-clear_pen = record { at = 0; strange = Nowhere; spare = Nowhere }
+clear_pen = record { at = 0; strange = None; spare = None }
 
 -- Of all rows some stand in the draft, as the pen says. Where 8 bytes are left behind the pen, those that do not are the rest.
 pub record Laid (all rest : List Row) (draft : List ℕ) (p : Pen) : Type 0 where
@@ -90,9 +90,9 @@ earlier_of n p o = when eqb n 5 then min o p else o
 
 -- the reader's refusal, with the first spare field
 unfoldable pub joined : Refusal → Fault → Refusal
-joined r Nowhere = r
-joined Passed (At o) = Refused 5 o
-joined (Refused n p) (At o) = when ltb n 5 then Refused n p else Refused 5 (earlier_of n p o)
+joined r None = r
+joined Passed (Some o) = Refused 5 o
+joined (Refused n p) (Some o) = when ltb n 5 then Refused n p else Refused 5 (earlier_of n p o)
 
 -- refusals 3 to 6 of what would be written
 unfoldable pub judged : List ℕ → Fault → Refusal

@@ -7,27 +7,27 @@ ghost use Rattle.writing.specs.Asked.{noted, penned, clear_pen, Lays, shapes_lai
 
 use crate::entries;
 use crate::entries::Entry;
-use book::{Fault, kind};
+use book::kind;
 use labels::Label;
 
 // How many bytes stand so far, the first row whose kind is none of its table's, and the first with a spare field.
 #[derive(Clone, Copy)]
 pub struct Pen {
     pub at: usize,
-    pub strange: Fault,
-    pub spare: Fault,
+    pub strange: Option<usize>,
+    pub spare: Option<usize>,
 }
 
-fn note(fault: Fault, bad: bool, at: usize) -> Fault
+fn note(fault: Option<usize>, bad: bool, at: usize) -> Option<usize>
     ensures { result ≡ noted fault bad at }
 {
     match fault {
-        Fault::At(o) => Fault::At(o),
-        Fault::Nowhere => {
+        Some(o) => Some(o),
+        None => {
             if bad {
-                return Fault::At(at);
+                return Some(at);
             }
-            Fault::Nowhere
+            None
         }
     }
 }
@@ -191,8 +191,8 @@ pub fn lay_tables(
 {
     let start = Pen {
         at: 0,
-        strange: Fault::Nowhere,
-        spare: Fault::Nowhere,
+        strange: None,
+        spare: None,
     };
     let e = entries::c_entry(c);
     let pen = lay(draft, start, e);

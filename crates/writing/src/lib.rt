@@ -7,13 +7,13 @@ mod laying;
 
 ghost use Rattle.std.specs.Prelude.{◌≡◌, ◌≤◌, length};
 ghost use Rattle.book.specs.declared.Refusal.TheVariants.{Refused};
-ghost use Rattle.book.specs.declared.Fault.TheVariants.{Nowhere};
+ghost use Rattle.std.specs.Prelude.{None};
 ghost use Rattle.book.specs.Refusals.{cut_fault};
 ghost use Rattle.rows.specs.Rows.{tables_in};
 ghost use Rattle.rows.specs.Write.{WriteResult, written_of, written};
 ghost use Rattle.writing.specs.Asked.{Drafted, earlier_of, joined, judged, unsound, roomed};
 
-use book::{Fault, Refusal};
+use book::Refusal;
 use labels::Label;
 use laying::Pen;
 
@@ -51,12 +51,12 @@ fn earlier_of(number: u8, place: usize, o: usize) -> usize
 }
 
 // The reader's refusal of what would be written, with the first spare field: both are of the stage of refusal 5, and the earlier place counts.
-fn with_spare(refusal: Refusal, spare: Fault) -> Refusal
+fn with_spare(refusal: Refusal, spare: Option<usize>) -> Refusal
     ensures { result ≡ joined refusal spare }
 {
     match spare {
-        Fault::Nowhere => refusal,
-        Fault::At(o) => match refusal {
+        None => refusal,
+        Some(o) => match refusal {
             Refusal::Passed => Refusal::Refused {
                 number: 5,
                 place: o,
@@ -79,8 +79,8 @@ fn with_spare(refusal: Refusal, spare: Fault) -> Refusal
 }
 
 // Refusals 3 to 6 of a draft whose rows are all known.
-fn judge(draft: &[u8], spare: Fault) -> Refusal
-    requires { (length draft.now ≤ 32768) × (cut_fault draft.now ≡ Nowhere) }
+fn judge(draft: &[u8], spare: Option<usize>) -> Refusal
+    requires { (length draft.now ≤ 32768) × (cut_fault draft.now ≡ None) }
     ensures { result ≡ judged draft.now spare }
 {
     let r = reading::read(draft);
@@ -108,7 +108,7 @@ fn refusal_of(
     let agree = counts::agree(blocks, steps.len() / rows::STEP_ROW);
     if agree {
         let strange = pen.strange;
-        if let Fault::At(o) = strange {
+        if let Some(o) = strange {
             return Refusal::Refused {
                 number: 2,
                 place: o,

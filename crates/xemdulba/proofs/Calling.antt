@@ -24,8 +24,8 @@ use Rattle.book.specs.Refusals.{unreadable}
 use Rattle.book.proofs.Bounds.{refused_short}
 use Rattle.events.specs.Bytes.{events_in, unplayable}
 use Rattle.events.proofs.Bounds.{unplayed_short}
-use Rattle.machine.specs.declared.Launch.{Launch}
-use Rattle.machine.specs.declared.Launch.TheVariants.{Default, Given}
+use Rattle.machine.specs.Launch.{Launch}
+use Rattle.std.specs.Prelude.{None, Some}
 use Rattle.machine.specs.Events.{first_bound, launch_label}
 use Rattle.interpreter.specs.Run.{Run, or_next, untabled, unanswered, memory_refusal, unlaunched, refusal_by, unrunnable, ran}
 use Rattle.interpreter.proofs.Ran.{refusal_is}
@@ -36,13 +36,13 @@ use Rattle.xemdulba.proofs.Answers.{answers_fit}
 
 -- l is the number as a label
 module _ (n : ℕ) where
-  pub launch_none : n ≡ 4294967295 → Default ≡ launch_of n
+  pub launch_none : n ≡ 4294967295 → None ≡ launch_of n
   unfolding launch_of
   launch_none e = simp (eq-eqb _ _ e)
 
-  pub launch_given : (n ≡ 4294967295 → ⊥) → (l : Label) → l ≡ label_of n → Given l ≡ launch_of n
+  pub launch_given : (n ≡ 4294967295 → ⊥) → (l : Label) → l ≡ label_of n → Some l ≡ launch_of n
   unfolding launch_of
-  launch_given u l e = simp (ne_eqb _ _ u) (ap Given e)
+  launch_given u l e = simp (ne_eqb _ _ u) (ap Some e)
 
 pub ruleset launches = (launch_none, launch_given)
 
@@ -79,10 +79,10 @@ room_short l room count = go (ltb room count) refl
 
 launch_short : (l : ℕ) (bound : Label) (launch : Launch) → Short l (unlaunched bound launch)
 unfolding unlaunched
-launch_short l bound Default = passed_short l
-launch_short l bound (Given k) = go (is_above k bound) refl
+launch_short l bound None = passed_short l
+launch_short l bound (Some k) = go (is_above k bound) refl
   where
-    go : (b : Bool) → is_above k bound ≡ b → Short l (unlaunched bound (Given k))
+    go : (b : Bool) → is_above k bound ≡ b → Short l (unlaunched bound (Some k))
     go true e = simp e (start_short l 14)
     go false e = simp e (passed_short l)
 

@@ -11,7 +11,7 @@ use lib.ListN.{length, get_or, length-map}
 use borrow.Author.Tests.{lt-ltb, ltb-false, ne_eqb, eqb-true}
 use Rattle.labels.specs.declared.Label.{Label}
 use Rattle.labels.specs.Labels.{label}
-use Rattle.book.specs.declared.Fault.TheVariants.{Nowhere}
+use Rattle.std.specs.Prelude.{None}
 use Rattle.book.specs.declared.Refusal.TheVariants.{Passed, Refused}
 use Rattle.book.specs.Control.{when◌then◌else◌}
 use Rattle.book.specs.Kinds.{limits}
@@ -26,7 +26,7 @@ use Rattle.book.proofs.Groups.{is_block}
 use Rattle.book.proofs.Sweep.{Cleared, cleared}
 use Rattle.book.proofs.Readable.{pass_whole, readable}
 use Rattle.book.proofs.Parsed.{sound}
-use Rattle.machine.specs.declared.Launch.TheVariants.{Given}
+use Rattle.std.specs.Prelude.{Some}
 use Rattle.machine.specs.Events.{no_block, first_bound}
 use Rattle.interpreter.specs.Run.{unlaunched}
 use Rattle.xemdulba.specs.Calls.{label_of, launch_of}
@@ -34,7 +34,7 @@ use Rattle.xemdulba.specs.Launching.{LaunchNumbers}
 
 -- what refusal 5 leaves of a record, and of those behind it
 abbrev Ranged : List ℕ → ℕ → Type 0
-Ranged s o = Cleared {S = Unit {0}} (λ t o. out_of_range s o) (λ t o. t) (λ t. Nowhere) s o
+Ranged s o = Cleared {S = Unit {0}} (λ t o. out_of_range s o) (λ t o. t) (λ t. None) s o
 
 block_small : (s : List ℕ) (o : ℕ) → Passing (Ranged s) (in_group s 4) o → byte_at s (o + 1) ≤ 15
 unfolding out_of_range above limits
@@ -56,7 +56,7 @@ above_bound : (bound : Label) (n : ℕ) → bound.0 ≤ 15 → bound.0 < n → (
 unfolding launch_of label_of unlaunched
 above_bound bound n small h u = simp (ne_eqb n 4294967295 u, lt-ltb bound.0 (min n 255) (omega arith))
 
-a_byte : (n : ℕ) → n ≤ 255 → launch_of n ≡ Given (label n)
+a_byte : (n : ℕ) → n ≤ 255 → launch_of n ≡ Some (label n)
 unfolding launch_of label_of
 a_byte n h = let e : min n 255 ≡ n = omega arith in simp (ne_eqb n 4294967295 (λ z. omega arith), e)
 

@@ -16,8 +16,8 @@ use Rattle.book.specs.declared.Found.{Found}
 use Rattle.book.specs.Control.{when◌then◌else◌}
 use Rattle.typing.specs.declared.Verdict.{Verdict}
 use Rattle.typing.specs.declared.Verdict.TheVariants.{Accepted, Refused}
-use Rattle.machine.specs.declared.Launch.{Launch}
-use Rattle.machine.specs.declared.Launch.TheVariants.{Default, Given}
+use Rattle.machine.specs.Launch.{Launch}
+use Rattle.std.specs.Prelude.{None, Some}
 use Rattle.interpreter.specs.Run.{Run}
 use Rattle.scheduler.specs.Rounds.{Round}
 use Rattle.listing.specs.declared.Fields.{Fields}
@@ -105,7 +105,7 @@ abbrev pub default_launch : ℕ
 default_launch = 4294967295
 
 unfoldable pub launch_of : ℕ → Launch
-launch_of n = when eqb n default_launch then Default else Given (label_of n)
+launch_of n = when eqb n default_launch then None else Some (label_of n)
 
 -- 0 stands for a book that is written
 unfoldable pub written_by : Refusal → ℕ → Written

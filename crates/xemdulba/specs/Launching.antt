@@ -8,15 +8,15 @@ use Rattle.book.specs.Records.{byte_at}
 use Rattle.book.specs.Book.{parse}
 use Rattle.book.specs.Refusals.{unreadable}
 use Rattle.book.specs.Stretch.{found_block}
-use Rattle.machine.specs.declared.Launch.TheVariants.{Default, Given}
+use Rattle.std.specs.Prelude.{None, Some}
 use Rattle.machine.specs.Events.{first_bound}
 use Rattle.interpreter.specs.Run.{unlaunched}
 use Rattle.xemdulba.specs.Calls.{launch_of}
 
 pub record LaunchNumbers : Type 0 where
   -- 0xFFFFFFFF stands for none, and a byte for that label
-  pub none : launch_of 4294967295 ≡ Default
-  pub given : (n : ℕ) → n ≤ 255 → launch_of n ≡ Given (label n)
+  pub none : launch_of 4294967295 ≡ None
+  pub given : (n : ℕ) → n ≤ 255 → launch_of n ≡ Some (label n)
   -- "Any other number above that bound is refused by 14."
   pub above : (book : List ℕ) → unreadable book ≡ Passed → (n : ℕ) → (first_bound (parse book)).0 < n → (n ≡ 4294967295 → ⊥)
       → unlaunched (first_bound (parse book)) (launch_of n) ≡ Refused 14 0

@@ -14,7 +14,6 @@ ghost use Rattle.xemdulba.specs.Calls.{checked, found, Call, called, RoundCall, 
 use book::Refusal;
 use labels::Label;
 use listing::Fields;
-use machine::Launch;
 use typing::Verdict;
 
 // The verdict on a book: refusal 0 where it is accepted. On a refusal the counts are 0.
@@ -148,13 +147,13 @@ fn label_of(n: u32) -> Label
 const DEFAULT_LAUNCH: u32 = 4294967295;
 
 // A number as what a run is given for job 0.
-fn launch_of(n: u32) -> Launch
+fn launch_of(n: u32) -> Option<Label>
     ensures { result ≡ launch_of n }
 {
     if n == DEFAULT_LAUNCH {
-        return Launch::Default;
+        return None;
     }
-    Launch::Given(label_of(n))
+    Some(label_of(n))
 }
 
 // Runs the events of a list on a book, job 0 at a launch label. On a refusal nothing is written.

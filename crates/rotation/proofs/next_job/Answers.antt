@@ -4,8 +4,8 @@ use Prim.Native.Nat.{ℕ, zero, suc, ◌+◌, ◌-◌, ◌<◌, ◌≤◌}
 use native.Mathlib.Omega.{arith}
 use mathlib.Core.Bool.{Bool, true, false}
 use borrow.Author.Tests.{lt-ltb, le-ltb}
-use Rattle.rotation.specs.declared.JobFound.{JobFound}
-use Rattle.rotation.specs.declared.JobFound.TheVariants.{At, Nothing}
+use Rattle.rotation.specs.Found.{JobFound}
+use Rattle.std.specs.Prelude.{Some, None}
 use Rattle.rotation.specs.Round.{first_place, scan}
 use Rattle.rotation.specs.Scans.{is_pending}
 use Rattle.rotation.proofs.Ring.{scan_hits, all_ahead, hits_ahead, misses_ahead, none_ahead, misses_behind}
@@ -13,7 +13,7 @@ use Rattle.rotation.proofs.next_job.Goals as goal
 
 -- a place of the first loop, b of the places behind the first being left, and one of the second
 module _ (f : ℕ → Bool) (m : ℕ) (x : JobFound) where
-  hit_ahead : (b i : ℕ) → i < m → scan f m (m - i + b) (first_place i m) ≡ x → f i ≡ true → At i ≡ x
+  hit_ahead : (b i : ℕ) → i < m → scan f m (m - i + b) (first_place i m) ≡ x → f i ≡ true → Some i ≡ x
   hit_ahead b i l s e =
       let q : suc (m - (i + 1)) ≡ m - i = omega arith in
       hits_ahead f m (m - (i + 1)) b i e l ∙ ap (λ (k : ℕ). scan f m (k + b) (first_place i m)) q ∙ s
@@ -29,7 +29,7 @@ module _ (f : ℕ → Bool) (m : ℕ) (x : JobFound) where
       let q : zero ≡ m - i = omega arith in
       ap (λ (k : ℕ). scan f m k 0) p ∙ none_ahead f m b i l ∙ ap (λ (k : ℕ). scan f m (k + b) (first_place i m)) q ∙ s
 
-  hit_behind : (b i : ℕ) → i < b → scan f m (b - i) i ≡ x → f i ≡ true → At i ≡ x
+  hit_behind : (b i : ℕ) → i < b → scan f m (b - i) i ≡ x → f i ≡ true → Some i ≡ x
   hit_behind b i l s e =
       let q : suc (b - (i + 1)) ≡ b - i = omega arith in
       sym (scan_hits f m (b - (i + 1)) i e) ∙ ap (λ (k : ℕ). scan f m k i) q ∙ s
@@ -39,7 +39,7 @@ module _ (f : ℕ → Bool) (m : ℕ) (x : JobFound) where
       let q : suc (b - (i + 1)) ≡ b - i = omega arith in
       misses_behind f m (b - (i + 1)) i e (omega arith) ∙ ap (λ (k : ℕ). scan f m k i) q ∙ s
 
-  past_behind : (b i : ℕ) → b ≤ i → scan f m (b - i) i ≡ x → Nothing ≡ x
+  past_behind : (b i : ℕ) → b ≤ i → scan f m (b - i) i ≡ x → None ≡ x
   unfolding scan
   past_behind b i l s = let q : zero ≡ b - i = omega arith in ap (λ (k : ℕ). scan f m k i) q ∙ s
 

@@ -41,7 +41,7 @@ schedule_spec =
     (λ c κs. round_begins c.loop-at.invariant _ c.first_place-begin.ensures)
     (λ c. search rules)
     (λ c. round_stops c.loop-at.invariant c.loop-at-test.true)
-    (λ c. round_over c.loop-at.invariant _ c.first_place-begin.ensures c.loop-at-test.true _ c.next_of-found.ensures c.in-Nothing.is)
+    (λ c. round_over c.loop-at.invariant _ c.first_place-begin.ensures c.loop-at-test.true _ c.next_of-found.ensures c.in-None.is)
     (λ c. search rules)
     -- the job, and its step
     (λ c. let f = round_turns c.loop-at.invariant in search rules)

@@ -15,8 +15,8 @@ slice_bounds-stretch-end c = search laids
 pub check_block-requires : goal.check_block-requires
 check_block-requires c = search (laids, rules)
 
-pub returns-in-At : goal.returns-in-At
-returns-in-At c = search rounds
+pub returns-in-Some : goal.returns-in-Some
+returns-in-Some c = search rounds
 
 pub loop-i-preserved : goal.loop-i-preserved
 loop-i-preserved c = (

@@ -7,9 +7,9 @@ use mathlib.Core.Path.{refl, sym, ap, ◌∙◌}
 use Prim.Native.Nat.{◌-◌}
 use Rattle.tables.proofs.Saved.{JobsIn}
 use Rattle.interpreter.proofs.Playing.{first_label}
-use Rattle.rotation.specs.declared.JobFound.TheVariants.{At}
+use Rattle.std.specs.Prelude.{Some}
 use Rattle.scheduler.proofs.Scheduling.{Rounding, SomeJob, SomeTurn, round_next, round_here, round_inside, round_ends, round_stands}
-use Rattle.scheduler.proofs.schedule.Lts.{then-pending-begin-eq0+in-At, else-pending-begin-eq0}
+use Rattle.scheduler.proofs.schedule.Lts.{then-pending-begin-eq0+in-Some, else-pending-begin-eq0}
 use Rattle.scheduler.proofs.schedule.Tie as tie
 
 abbrev pub InvLoop : tie.invariant-loop-at
@@ -58,8 +58,8 @@ chosen c =
       w = w;
       h = h;
       next = elim c.if-pending-begin-eq0.branch [
-        | then-pending-begin-eq0+in-At x ↦ round_next w _ eb h _ x.next_of-found.ensures _ x.in-At.is ∙ ap At (sym x.i-is)
-        | else-pending-begin-eq0 x ↦ round_here w _ eb _ x.if-pending-begin-eq0.false ∙ ap At (sym x.i-is)
+        | then-pending-begin-eq0+in-Some x ↦ round_next w _ eb h _ x.next_of-found.ensures _ x.in-Some.is ∙ ap Some (sym x.i-is)
+        | else-pending-begin-eq0 x ↦ round_here w _ eb _ x.if-pending-begin-eq0.false ∙ ap Some (sym x.i-is)
       ];
     }
 
