@@ -1,8 +1,6 @@
 -- Laws of the acts, for the code: an act sees of the cells only the one that it reaches.
 --     not_plain, .., kinds                        a value by its kind
---     opens                                       whether the cell can be written
 --     writes, relabels, makes, starts, execs      one set for each act
---     clamps, answer_is                           an entry of a table; the answer to an effect
 -- Assumes nothing.
 use mathlib.Core.Path.{◌≡◌, refl, sym, ◌∙◌}
 use mathlib.Core.Bool.{Bool, true, false}
@@ -27,9 +25,8 @@ use Rattle.machine.specs.Events.{table_size}
 use Rattle.acts.specs.declared.Stored.{Stored}
 use Rattle.acts.specs.declared.StoredCell.{StoredCell}
 use Rattle.acts.specs.declared.Near.{Near}
-use Rattle.acts.specs.declared.Act as Told
 use Rattle.acts.specs.declared.Act.TheVariants.{Blocked, Store, Create, Launch}
-use Rattle.acts.specs.Views.{stored_of, stored_content, cell_with, cell_of, nearby, effect_of, job_after, kept, sort_of, waits, acts, Does, Makes, store_sort, launch_sort, clamped, answer_of}
+use Rattle.acts.specs.Views.{stored_of, stored_content, cell_with, cell_of, nearby, effect_of, job_after, kept, sort_of, waits, acts, Does, Makes, store_sort, launch_sort}
 
 pub same_some : {A : Type 0} (x : A) (n k : ℕ) → k < n → get_elem? (replicate n x) k ≡ some x
 same_some x zero k h = absurd (omega arith)
@@ -164,15 +161,6 @@ module _ (l h : Label) (y : Near) where
   nowhere : (k : ℕ) → y.cells ≤ k → get_elem? (replicate y.cells (cell_of y.cell)) k ≡ none
   nowhere k r = same_none (cell_of y.cell) y.cells k r
 
-  module _ (k : ℕ) where
-    pub open_in : (b : Bool) → k < y.cells → b ≡ reaches l y.cell.label → b ≡ both (ltb k y.cells) (reaches l y.cell.label)
-    unfolding both
-    open_in b r e = e ∙ simp (lt-ltb _ _ r)
-
-    pub open_out : y.cells ≤ k → false ≡ both (ltb k y.cells) (reaches l y.cell.label)
-    unfolding both
-    open_out r = simp (le-ltb _ _ r)
-
   -- o: the cell is open
   module _ (k : ℕ) (o : Bool) (eo : o ≡ both (ltb k y.cells) (reaches l y.cell.label)) where
     pub open_there : o ≡ true → (k < y.cells) × (reaches l y.cell.label ≡ true)
@@ -197,25 +185,24 @@ module _ (l h : Label) (y : Near) where
     unfolding write_act on_some given
     write_done v x c f e ec = let p = open_there f in is_store (rw ec (simp (there k p.0, p.1, e)))
 
-  module _ (k : ℕ) (o : Label) where
-    pub relabel_none : y.cells ≤ k → Does store_sort (nearby y) k (relabel_act sources (nearby y) l h k o) Blocked
-    unfolding relabel_act on_some
-    relabel_none r = is_blocked (simp (nowhere k r))
-
-    module _ (r : k < y.cells) (a : Bool) (ea : a ≡ reaches l y.cell.label) where
-      pub relabel_old : a ≡ false → Does store_sort (nearby y) k (relabel_act sources (nearby y) l h k o) Blocked
+    module _ (g : Label) where
+      pub relabel_closed : o ≡ false → Does store_sort (nearby y) k (relabel_act sources (nearby y) l h k g) Blocked
       unfolding relabel_act on_some given both
-      relabel_old f = is_blocked (simp (there k r, ← ea, f))
+      relabel_closed f = go (ltb k y.cells) refl
+        where
+          go : (t : Bool) → ltb k y.cells ≡ t → Does store_sort (nearby y) k (relabel_act sources (nearby y) l h k g) Blocked
+          go true q = let e : reaches l y.cell.label ≡ false = sym (simp q at eo) ∙ f in is_blocked (simp (there k (ltb-true k y.cells q), e))
+          go false q = is_blocked (simp (nowhere k (ltb-false k y.cells q)))
 
-      module _ (f : a ≡ true) (b : Bool) (eb : b ≡ reaches l o) where
-        pub relabel_new : b ≡ false → Does store_sort (nearby y) k (relabel_act sources (nearby y) l h k o) Blocked
+      module _ (f : o ≡ true) (b : Bool) (eb : b ≡ reaches l g) where
+        pub relabel_above : b ≡ false → Does store_sort (nearby y) k (relabel_act sources (nearby y) l h k g) Blocked
         unfolding relabel_act on_some given both
-        relabel_new g = is_blocked (simp (there k r, ← ea, f, ← eb, g))
+        relabel_above q = let p = open_there f in is_blocked (simp (there k p.0, p.1, ← eb, q))
 
-        pub relabel_done : (x : Stored) (c : StoredCell) → b ≡ true → x ≡ stored_content y.cell → c ≡ cell_with x y.cell.shape o
-            → Does store_sort (nearby y) k (relabel_act sources (nearby y) l h k o) (Store c)
+        pub relabel_done : b ≡ true
+            → Does store_sort (nearby y) k (relabel_act sources (nearby y) l h k g) (Store (cell_with (stored_content y.cell) y.cell.shape g))
         unfolding relabel_act on_some given both
-        relabel_done x c g ex ec = is_store (rw (ec, ex) (simp (there k r, ← ea, f, ← eb, g)))
+        relabel_done q = let p = open_there f in is_store (simp (there k p.0, p.1, ← eb, q))
 
   module _ (r i : ℕ) (v : Stored) where
     pub make_full : 64 ≤ y.cells → Makes (nearby y) r (new_act sources table_size (nearby y) l h i (stored_of v)) Blocked
@@ -265,26 +252,12 @@ module _ (l h : Label) (y : Near) where
             (simp (there k r, is_code blocked (launching l h y) y.cell.number y.cell.kind (rw ev at n))
             (simp (length-replicate y.jobs idle, lt-ltb _ _ f, et, (rw ev at es), el))))
 
-pub ruleset opens = (open_in, open_out)
-
 pub ruleset writes = (write_closed, write_done)
 
-pub ruleset relabels = (relabel_none, relabel_old, relabel_new, relabel_done)
+pub ruleset relabels = (relabel_closed, relabel_above, relabel_done)
 
 pub ruleset makes = (make_full, make_done)
 
 pub ruleset starts = (start_full, start_done)
 
 pub ruleset execs = (exec_none, exec_other, exec_full, exec_done)
-
-pub clamp_in : (k : ℕ) → k < 64 → (k ≡ clamped k) × (k < 64)
-clamp_in k h = (simp (lt-ltb _ _ h), h)
-
-pub clamp_out : (k : ℕ) → 64 ≤ k → (◌≡◌ {A = ℕ} 0 (clamped k)) × (0 < 64)
-clamp_out k h = (simp (le-ltb _ _ h), omega arith)
-
-pub ruleset clamps = (clamp_in, clamp_out)
-
--- a is what the code found, and y the effect of the same sort
-pub answer_is : (x y : Told.Act) (a : ℕ) → x ≡ y → a ≡ answer_of y → a ≡ answer_of x
-answer_is x y a d q = rw d q

@@ -1,4 +1,4 @@
-// What an actor does, at its label and with its history's source h.
+// What an actor does.
 ghost use Rattle.std.specs.Prelude.{◌≡◌, ◌<◌, ltb};
 ghost use Rattle.labels.specs.Labels.{reaches};
 ghost use Rattle.book.specs.Control.{both};
@@ -7,103 +7,92 @@ ghost use Rattle.machine.specs.Acts.{write_act, relabel_act, new_act, start_act,
 ghost use Rattle.machine.specs.Events.{table_size};
 ghost use Rattle.acts.specs.Views.{clamped, stored_of, nearby, answer_of, Does, Makes, store_sort, launch_sort};
 
-use crate::{Act, Near, Stored, StoredJob, registers};
+use crate::{Act, Actor, Near, Stored, StoredCell, StoredJob};
 use book::value_kind;
 use labels::Label;
 use machine::answer;
 
-// The cell that is reached, number k, exists and can be written at label l.
-pub fn is_open(l: Label, near: Near, k: u32) -> bool
-    ensures { result ≡ both (ltb k near.cells) (reaches l near.cell.label) }
-{
-    let cell = near.cell;
-    if (k as usize) < near.cells {
-        return l.reaches(cell.label);
+impl Near {
+    // The cell that is reached, number k, exists and can be written at label l.
+    #[tactic(auto, unfolding(book::specs::Control::both))]
+    pub fn is_open(self, l: Label, k: u32) -> bool
+        ensures { result ≡ both (ltb k self.cells) (reaches l self.cell.label) }
+    {
+        (k as usize) < self.cells && l.reaches(self.cell.label)
     }
-    false
 }
 
-pub fn write_cell(l: Label, h: Label, near: Near, k: u32, v: Stored) -> Act
-    ensures { Does store_sort (nearby near) k (write_act sources (nearby near) l h k (stored_of v)) result }
-{
-    if is_open(l, near, k) {
-        let cell = near.cell;
-        let label = cell.label;
-        let content = registers::acted(h, v);
-        return Act::Store(registers::hold(content, cell.shape, label));
+impl Actor {
+    pub fn write(self, near: Near, k: u32, v: Stored) -> Act
+        ensures { Does store_sort (nearby near) k (write_act sources (nearby near) self.label self.source k (stored_of v)) result }
+    {
+        if near.is_open(self.label, k) {
+            let content = v.acted(self.source);
+            return Act::Store(StoredCell::holding(content, near.cell.shape, near.cell.label));
+        }
+        Act::Blocked
     }
-    Act::Blocked
-}
 
-pub fn relabel_cell(l: Label, h: Label, near: Near, k: u32, o: Label) -> Act
-    ensures { Does store_sort (nearby near) k (relabel_act sources (nearby near) l h k o) result }
-{
-    let cell = near.cell;
-    let label = cell.label;
-    if (k as usize) < near.cells {
-        if l.reaches(label) {
-            if l.reaches(o) {
-                let content = registers::content_of(cell);
-                return Act::Store(registers::hold(content, cell.shape, o));
-            }
+    pub fn relabel(self, near: Near, k: u32, o: Label) -> Act
+        ensures { Does store_sort (nearby near) k (relabel_act sources (nearby near) self.label self.source k o) result }
+    {
+        if near.is_open(self.label, k) && self.label.reaches(o) {
+            return Act::Store(StoredCell {
+                label: o,
+                ..near.cell
+            });
+        }
+        Act::Blocked
+    }
+
+    // Register r of the job that acts gets the cell's name; where an outsider acts r says nothing.
+    pub fn make(self, near: Near, r: u8, i: u8, v: Stored) -> Act
+        ensures { Makes (nearby near) r (new_act sources table_size (nearby near) self.label self.source i (stored_of v)) result }
+    {
+        let free = near.cells < StoredJob::TABLE_SIZE;
+        if free {
+            let content = v.acted(self.source);
+            return Act::Create(r, StoredCell::holding(content, i, self.label));
+        }
+        Act::Blocked
+    }
+
+    pub fn start(self, near: Near, b: u32) -> Act
+        ensures { Does launch_sort (nearby near) 0 (start_act sources table_size (nearby near) self.label self.source b) result }
+    {
+        let free = near.jobs < StoredJob::TABLE_SIZE;
+        if free {
+            return Act::Launch(b, self.label, self.source);
+        }
+        Act::Blocked
+    }
+
+    pub fn exec(self, near: Near, k: u32) -> Act
+        ensures { Does launch_sort (nearby near) k (exec_act sources table_size (nearby near) self.label self.source k) result }
+    {
+        let content = near.cell.content();
+        if near.cells <= k as usize
+            || content.kind < value_kind::CODE
+            || StoredJob::TABLE_SIZE <= near.jobs
+        {
             return Act::Blocked;
         }
-        return Act::Blocked;
+        let low = self.label.lower_of(near.cell.label);
+        let both = self.source.lower_of(content.source);
+        Act::Launch(content.number, low, both.lower_of(low))
     }
-    Act::Blocked
 }
 
-// Register r of the job that acts gets the cell's name; where an outsider acts r says nothing.
-pub fn make_cell(l: Label, h: Label, near: Near, r: u8, i: u8, v: Stored) -> Act
-    ensures { Makes (nearby near) r (new_act sources table_size (nearby near) l h i (stored_of v)) result }
-{
-    if near.cells < StoredJob::TABLE_SIZE {
-        let content = registers::acted(h, v);
-        return Act::Create(r, registers::hold(content, i, l));
-    }
-    Act::Blocked
-}
-
-pub fn start_job(l: Label, h: Label, near: Near, b: u32) -> Act
-    ensures { Does launch_sort (nearby near) 0 (start_act sources table_size (nearby near) l h b) result }
-{
-    if near.jobs < StoredJob::TABLE_SIZE {
-        return Act::Launch(b, l, h);
-    }
-    Act::Blocked
-}
-
-pub fn exec_cell(l: Label, h: Label, near: Near, k: u32) -> Act
-    ensures { Does launch_sort (nearby near) k (exec_act sources table_size (nearby near) l h k) result }
-{
-    let cell = near.cell;
-    if near.cells <= k as usize {
-        return Act::Blocked;
-    }
-    let content = registers::content_of(cell);
-    if content.kind < value_kind::CODE {
-        return Act::Blocked;
-    }
-    if StoredJob::TABLE_SIZE <= near.jobs {
-        return Act::Blocked;
-    }
-    let low = l.lower_of(cell.label);
-    let both = h.lower_of(content.source);
-    let source = both.lower_of(low);
-    Act::Launch(content.number, low, source)
-}
-
-// The answer to an event of this act.
-pub fn answer_of(x: Act) -> u8
-    ensures { result ≡ answer_of x }
-{
-    match x {
-        Act::Blocked => answer::BLOCKED,
-        Act::Give(_, _) => answer::DONE,
-        Act::Lower(_, _) => answer::DONE,
-        Act::Store(_) => answer::DONE,
-        Act::Create(_, _) => answer::DONE,
-        Act::Launch(_, _, _) => answer::DONE,
+impl Act {
+    // The answer to an event of this act. Answers are bytes of the caller's buffer, in C too, and so constants and no enum.
+    #[tactic(auto, unfolding(crate::specs::Views::answer_of))]
+    pub fn answer(self) -> u8
+        ensures { result ≡ answer_of self }
+    {
+        match self {
+            Act::Blocked => answer::BLOCKED,
+            _ => answer::DONE,
+        }
     }
 }
 
@@ -111,8 +100,5 @@ pub fn answer_of(x: Act) -> u8
 pub fn clamp(k: usize) -> usize
     ensures { (result ≡ clamped k) × (result < 64) }
 {
-    if k < StoredJob::TABLE_SIZE {
-        return k;
-    }
-    0
+    if k < StoredJob::TABLE_SIZE { k } else { 0 }
 }

@@ -1,18 +1,14 @@
-// One act of a run on what it reaches: what it looks at of the job that acts, and one cell, both by value.
+// One act of a run on what it reaches: who acts, and one cell, both by value.
 #![tactic(auto)]
 
 mod acts;
 mod registers;
 
-pub use acts::{
-    answer_of, clamp, exec_cell, is_open, make_cell, relabel_cell, start_job, write_cell,
-};
+pub use acts::clamp;
 use labels::Label;
-pub use registers::{
-    acted, content_of, gets, hold, kind_of, lowered, moved, names, register_of, zero_with,
-};
 
 // A stored value: kind 0 plain, 1 a cell, any other a block, as the book reads kinds. Its source is the lowest label of its history.
+// The kind is a byte and no enum: one above 2 counts as a block too, as in the book.
 #[derive(Clone, Copy)]
 pub struct Stored {
     pub number: u32,
@@ -37,6 +33,13 @@ pub struct StoredJob {
     pub at: usize,
     pub block: u32,
     pub position: u16,
+    pub label: Label,
+    pub source: Label,
+}
+
+// Who acts, a job or an outsider: its label, and the source of its history.
+#[derive(Clone, Copy)]
+pub struct Actor {
     pub label: Label,
     pub source: Label,
 }

@@ -14,11 +14,10 @@ use lib.ListN.{length, get_or, take, drop, replicate}
 use borrow.Author.Tests.{lt-ltb, le-ltb, ltb-true, ltb-false, eqb-true}
 use Rattle.labels.proofs.Impossible.{impossible}
 use Rattle.std.specs.Prelude.{None}
-use Rattle.book.specs.declared.Refusal.{Refusal}
-use Rattle.book.specs.declared.Refusal.TheVariants.{Passed, Refused}
+use Rattle.book.specs.Outcome.{Refusal, Passed, Refused}
 use Rattle.book.specs.declared.Outline.{Outline}
-use Rattle.book.specs.declared.Reading.{Reading}
-use Rattle.book.specs.declared.Found.{Found}
+use Rattle.book.specs.Outline.{Reading}
+use Rattle.book.specs.Stretch.{Found}
 use Rattle.book.specs.Control.{those}
 use Rattle.book.specs.Kinds.{group}
 use Rattle.book.specs.Records.{byte_at, next, records, records_from, in_group}

@@ -19,9 +19,8 @@ use borrow.Author.Tests.{ltb-true, ltb-false}
 use Rattle.labels.proofs.Impossible.{impossible}
 use Rattle.book.specs.Missing.{Fault}
 use Rattle.std.specs.Prelude.{None, Some}
-use Rattle.book.specs.declared.Refusal.{Refusal}
-use Rattle.book.specs.declared.Refusal.TheVariants.{Passed, Refused}
-use Rattle.book.specs.declared.Found.{Found}
+use Rattle.book.specs.Outcome.{Refusal, Passed, Refused}
+use Rattle.book.specs.Stretch.{Found}
 use Rattle.book.specs.Control.{when◌then◌else◌, those, while, sweep}
 use Rattle.book.specs.Kinds.{span}
 use Rattle.book.specs.Spans.{next_by, cut_by, offsets_in, offsets_by}

@@ -29,3 +29,4 @@ pub mod Stretches
 pub mod Outlines
 pub mod Bounds
 pub mod Pairs
+pub mod Outcomes

@@ -1,7 +1,7 @@
 -- Laws of refusal 6.
 --     values, step_is, cells                 what a value, a step, a declared cell names
 --     danglings                              a record
---     names                                  the loop through the book
+--     name_start                             where the sweep through the book begins
 -- Assumes nothing.
 use mathlib.Core.Path.{◌≡◌, refl, sym, ap, ◌∙◌, fun_ext}
 use mathlib.Core.Bool.{Bool, true, false, not}
@@ -10,8 +10,6 @@ use Prim.Native.Nat.{ℕ, ◌+◌, ◌-◌, ◌≤◌, ◌<◌}
 use lib.Dec.{leb, ltb, eqb}
 use lib.ListN.{length, length-map}
 use borrow.Author.Tests.{eq-eqb, ne_eqb, lt-ltb, le-ltb}
-use Rattle.book.specs.Missing.{Fault}
-use Rattle.std.specs.Prelude.{None, Some}
 use Rattle.book.specs.declared.Outline.{Outline}
 use Rattle.book.specs.declared.Shape.{Shape}
 use Rattle.book.specs.declared.Value.{Value}
@@ -21,13 +19,12 @@ use Rattle.book.specs.declared.Step.{Step}
 use Rattle.book.specs.declared.Step.TheVariants.{Choose}
 use Rattle.book.specs.Control.{both}
 use Rattle.book.specs.Kinds.{group}
-use Rattle.book.specs.Records.{byte_at, next, records_from}
+use Rattle.book.specs.Records.{byte_at, records_from}
 use Rattle.book.specs.Book.{shapes_of, cells_of, blocks_of, shape_at, declared_at, step_at, block_at, parse}
 use Rattle.book.specs.Refusals.{value_named, cell_named, step_named, dangling, dangles, has_cell_shape, name_fault}
 use Rattle.book.specs.Outline.{shape_in, shapes_table, outline_of}
-use Rattle.book.specs.Asked.{Whole, Outlined, is_cell_shape_in}
+use Rattle.book.specs.Asked.{Outlined, is_cell_shape_in}
 use Rattle.book.proofs.ShapeTable.{shape_get}
-use Rattle.book.proofs.Sweep.{sweep_end, sweep_bad, sweep_on}
 
 -- what a value names
 module _ (cells blocks : ℕ) (v : Value) (n : ℕ) where
@@ -93,7 +90,7 @@ pub ruleset cells = (cell_yes, cell_no)
 
 pub ruleset danglings = (dangle_shape, dangle_cell, dangle_step, dangle_none)
 
--- the loop through the book
+-- where the sweep begins
 module _ (s : List ℕ) (t : Outline) (u : Outlined s t) where
   same_kinds : (i : ℕ) → is_cell_shape_in t.shapes i ≡ has_cell_shape (parse s) i
   unfolding outline_of parse
@@ -110,24 +107,3 @@ module _ (s : List ℕ) (t : Outline) (u : Outlined s t) where
       let y : blocks ≡ length (map (block_at s) (blocks_of s)) = eb ∙ ap (λ (t : Outline). t.counts.blocks) u.is ∙ sym (length-map (blocks_of s) (block_at s)) in
       let z : is_cell_shape_in t.shapes ≡ has_cell_shape (parse s) = fun_ext same_kinds in
       rw (es, x, y, z) refl
-
-module _ (f : ℕ → Bool) (cells blocks : ℕ) (s : List ℕ) (o n : ℕ) (z : Fault) (inv : dangles f cells blocks s n (records_from s o) ≡ z) where
-  pub name_end : length s ≤ o → None ≡ z
-  unfolding dangles
-  name_end h = sweep_end _ _ _ s n o z inv h
-
-  module _ (b : Bool) (w : Whole s o) (h : o < length s) (eb : b ≡ dangling f cells blocks s n o) where
-    pub name_bad : b ≡ true → Some o ≡ z
-    unfolding dangles
-    name_bad e = sweep_bad _ _ _ s n o z inv w h (sym eb ∙ e)
-
-    module _ (p g : ℕ) (e : b ≡ false) (ep : p ≡ next s o) (eg : g ≡ group (byte_at s o)) where
-      pub name_shape : g ≡ 2 → dangles f cells blocks s (n + 1) (records_from s p) ≡ z
-      unfolding dangles
-      name_shape d = rw ep (simp (← eg, eq-eqb _ _ d) at (sweep_on _ _ _ s n o z inv w h (sym eb ∙ e)))
-
-      pub name_other : (g ≡ 2 → ⊥) → dangles f cells blocks s n (records_from s p) ≡ z
-      unfolding dangles
-      name_other d = rw ep (simp (← eg, ne_eqb _ _ d) at (sweep_on _ _ _ s n o z inv w h (sym eb ∙ e)))
-
-pub ruleset names = (name_start, name_end, name_bad, name_shape, name_other)

@@ -12,7 +12,7 @@ use lib.Seq.{take_at}
 use borrow.Author.Tests.{lt-ltb, eq-eqb}
 use Rattle.book.specs.declared.Shape.{Shape}
 use Rattle.book.specs.declared.Outline.{Outline}
-use Rattle.book.specs.declared.Refusal.TheVariants.{Passed}
+use Rattle.book.specs.Outcome.{Passed}
 use Rattle.book.specs.Control.{both}
 use Rattle.book.specs.Records.{byte_at}
 use Rattle.book.specs.Book.{shapes_of, cells_of, blocks_of, shape_at, parse}

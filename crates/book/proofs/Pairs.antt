@@ -3,7 +3,7 @@
 -- Assumes nothing.
 use mathlib.Core.Path.{◌≡◌, ap}
 use Prim.Native.Nat.{ℕ}
-use Rattle.std.specs.Prelude.{None, Some, Option}
+use Rattle.std.specs.Prelude.{None, Some}
 use Rattle.labels.proofs.Impossible.{impossible}
 use Rattle.book.specs.declared.Step.{Step}
 use Rattle.book.specs.Missing.{StepAt}

@@ -11,7 +11,7 @@ use lib.ListN.{length, length-map}
 use borrow.Author.Tests.{ne_eqb, eqb-true, eqb-false, not-false}
 use Rattle.std.specs.Prelude.{None}
 use Rattle.book.specs.declared.Tally.{Tally}
-use Rattle.book.specs.declared.Refusal.TheVariants.{Passed}
+use Rattle.book.specs.Outcome.{Passed}
 use Rattle.book.specs.Control.{when◌then◌else◌, those, while, sweep}
 use Rattle.book.specs.Kinds.{group}
 use Rattle.book.specs.Records.{byte_at, next, records, records_from, in_group}

@@ -14,10 +14,9 @@ use borrow.Author.Tests.{lt-ltb, le-ltb, ltb-false}
 use Rattle.labels.proofs.Impossible.{impossible}
 use Rattle.book.specs.Missing.{Fault}
 use Rattle.std.specs.Prelude.{None, Some}
-use Rattle.book.specs.declared.Refusal.{Refusal}
-use Rattle.book.specs.declared.Refusal.TheVariants.{Passed, Refused}
+use Rattle.book.specs.Outcome.{Refusal, Passed, Refused}
 use Rattle.book.specs.declared.Outline.{Outline}
-use Rattle.book.specs.declared.Reading.{Reading}
+use Rattle.book.specs.Outline.{Reading}
 use Rattle.book.specs.Control.{when◌then◌else◌}
 use Rattle.book.specs.Refusals.{cut_fault, order_fault, count_fault, range_fault, name_fault, or_refuse, unreadable}
 use Rattle.book.specs.Outline.{outline_of, refused_reading, reading_of, reading}

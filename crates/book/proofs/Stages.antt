@@ -1,46 +1,36 @@
--- Laws of refusals 2 to 5, as their loops go through the book. z is what the whole stage gives.
---     cuts, orders, tallies, ranges      one set for each
+-- Laws of refusals 2 to 5, as one pass over the book begins and ends, and of what they ask of a record. z is what the whole stage gives.
+--     cut_start, .., range_end     where a pass begins, and at its end
+--     places, ones, crowds         in order after the last; one record more; too many
+--     onward                       past a whole record
 -- Assumes nothing.
-use mathlib.Core.Path.{◌≡◌, refl, sym, ◌∙◌}
-use mathlib.Core.Bool.{Bool, true, false}
+use mathlib.Core.Path.{◌≡◌, refl}
+use mathlib.Core.Bool.{true, false}
 use mathlib.Core.List.{List}
-use Prim.Native.Nat.{ℕ, ◌+◌, ◌≤◌, ◌<◌, min}
+use Prim.Native.Nat.{ℕ, ◌+◌, ◌≤◌, ◌<◌}
 use native.Mathlib.Omega.{arith}
 use lib.Dec.{leb, ltb, eqb}
 use lib.ListN.{length}
 use borrow.Author.Tests.{lt-ltb, le-ltb, eq-eqb, ne_eqb, ltb-false}
 use Rattle.book.specs.Missing.{Fault}
-use Rattle.std.specs.Prelude.{None, Some}
+use Rattle.std.specs.Prelude.{None}
 use Rattle.book.specs.declared.Tally.{Tally}
 use Rattle.book.specs.Control.{both, either, first}
-use Rattle.book.specs.Kinds.{span, group}
-use Rattle.book.specs.Records.{byte_at, next, cut, records_from}
+use Rattle.book.specs.Kinds.{span}
+use Rattle.book.specs.Records.{next, cut, records_from}
 use Rattle.book.specs.Refusals.{cut_fault, in_order, misplaced, order_fault, no_tally, counted, too_many, beyond, count_fault, out_of_range, range_fault}
 use Rattle.book.specs.Asked.{Whole}
 use Rattle.book.proofs.Tests.{either_left, either_right}
-use Rattle.book.proofs.Spans.{cut_kind, cut_body, uncut, fault_end, fault_cut, fault_more}
+use Rattle.book.proofs.Spans.{fault_end}
 use Rattle.book.proofs.Records.{walk}
-use Rattle.book.proofs.Sweep.{sweep_end, sweep_bad, sweep_on}
+use Rattle.book.proofs.Sweep.{sweep_end}
 
 -- 2
 pub cut_start : (s : List ℕ) → first (cut s) (records_from s 0) ≡ cut_fault s
 unfolding cut_fault
 cut_start s = refl
 
-module _ (s : List ℕ) (o p : ℕ) (z : Fault) (q : p ≡ next s o) (h : o < length s) (inv : first (cut s) (records_from s o) ≡ z) where
-  pub cut_none : p ≡ o → Some o ≡ z
-  cut_none e = fault_cut span s o z inv h (cut_kind span s o (omega arith))
-
-  pub cut_short : length s < p → Some o ≡ z
-  cut_short l = fault_cut span s o z inv h (cut_body span s o (omega arith))
-
-  pub cut_on : (p ≡ o → ⊥) → p ≤ length s → first (cut s) (records_from s p) ≡ z
-  cut_on n l = rw q (fault_more span s o z inv h (uncut span s o (λ e. n (omega arith)) (omega arith)))
-
 pub cut_end : (s : List ℕ) (o : ℕ) (z : Fault) → first (cut s) (records_from s o) ≡ z → length s ≤ o → None ≡ z
 cut_end s o z inv h = fault_end span s o z inv h
-
-pub ruleset cuts = (cut_start, cut_none, cut_short, cut_on, cut_end)
 
 -- 3
 module _ (p g : ℕ) where
@@ -71,21 +61,6 @@ module _ (s : List ℕ) (o p : ℕ) (z : Fault) (inv : misplaced s p (records_fr
   pub order_end : length s ≤ o → p ≡ 4 → None ≡ z
   unfolding misplaced
   order_end h e = simp (eq-eqb _ _ e) at (sweep_end _ _ _ s p o z inv h)
-
-  pub order_short : length s ≤ o → (p ≡ 4 → ⊥) → Some (length s) ≡ z
-  unfolding misplaced
-  order_short h e = simp (ne_eqb _ _ e) at (sweep_end _ _ _ s p o z inv h)
-
-  module _ (g : ℕ) (b : Bool) (w : Whole s o) (h : o < length s) (eg : g ≡ group (byte_at s o)) (eb : b ≡ in_order p g) where
-    pub order_bad : b ≡ false → Some o ≡ z
-    unfolding misplaced
-    order_bad e = sweep_bad _ _ _ s p o z inv w h (simp (← eg, ← eb, e))
-
-    pub order_on : (q n : ℕ) → b ≡ true → q ≡ min g 4 → n ≡ next s o → misplaced s q (records_from s n) ≡ z
-    unfolding misplaced
-    order_on q n e eq en = rw (en, eq, eg) (sweep_on _ _ _ s p o z inv w h (simp (← eg, ← eb, e)))
-
-pub ruleset orders = (order_start, order_end, order_short, order_bad, order_on)
 
 -- 4
 module _ (n : Tally) (e : too_many n ≡ false) where
@@ -166,20 +141,6 @@ module _ (s : List ℕ) (o : ℕ) (n : Tally) (z : Fault) (inv : beyond s n (rec
   unfolding beyond
   count_end h = sweep_end _ _ _ s n o z inv h
 
-  module _ (g : ℕ) (m : Tally) (b : Bool) (w : Whole s o) (h : o < length s) (eg : g ≡ group (byte_at s o)) (em : m ≡ counted n g) (eb : b ≡ too_many m) where
-    pub count_bad : b ≡ true → Some o ≡ z
-    unfolding beyond
-    count_bad e = sweep_bad _ _ _ s n o z inv w h (simp (← eg, ← em, ← eb, e))
-
-    pub count_on : (p : ℕ) → b ≡ false → p ≡ next s o → beyond s m (records_from s p) ≡ z
-    unfolding beyond
-    count_on p e ep = rw (ep, em, eg) (sweep_on _ _ _ s n o z inv w h (simp (← eg, ← em, ← eb, e)))
-
-    pub count_few : b ≡ false → too_many m ≡ false
-    count_few e = sym eb ∙ e
-
-pub ruleset tallies = (count_start, none_few, count_end, count_bad, count_on, count_few)
-
 -- 5
 pub range_start : (s : List ℕ) → first (out_of_range s) (records_from s 0) ≡ range_fault s
 unfolding range_fault
@@ -188,15 +149,6 @@ range_start s = refl
 module _ (s : List ℕ) (o : ℕ) (z : Fault) (inv : first (out_of_range s) (records_from s o) ≡ z) where
   pub range_end : length s ≤ o → None ≡ z
   range_end h = sweep_end _ _ _ s tt o z inv h
-
-  module _ (b : Bool) (w : Whole s o) (h : o < length s) (eb : b ≡ out_of_range s o) where
-    pub range_bad : b ≡ true → Some o ≡ z
-    range_bad e = sweep_bad _ _ _ s tt o z inv w h (sym eb ∙ e)
-
-    pub range_on : (p : ℕ) → b ≡ false → p ≡ next s o → first (out_of_range s) (records_from s p) ≡ z
-    range_on p e ep = rw ep (sweep_on _ _ _ s tt o z inv w h (sym eb ∙ e))
-
-pub ruleset ranges = (range_start, range_end, range_bad, range_on)
 
 -- past a whole record
 pub whole_on : (s : List ℕ) (o p : ℕ) → Whole s o → o < length s → p ≡ next s o → Whole s p

@@ -8,7 +8,6 @@ use mathlib.Core.List.{List}
 use Prim.Native.Nat.{ℕ, ◌<◌}
 use lib.ListN.{length}
 use borrow.Author.Tests.{lt-ltb, eq-eqb, eqb-true}
-use Rattle.labels.proofs.Impossible.{impossible}
 use Rattle.book.specs.declared.Step.{Step}
 use Rattle.book.specs.Missing.{StepAt}
 use Rattle.std.specs.Prelude.{None, Some}

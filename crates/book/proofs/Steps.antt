@@ -1,8 +1,8 @@
 -- Laws of the steps that stand from an offset on.
 --     steps_end_lem, steps_none, steps_more     none at the end of the book or before another record; else the first, and the rest
---     skip_start, skip_more, skip_stop      a loop past them: at o, n of those from a on lie behind
+--     skip_more, skip_stop, skip_end            a loop past them: at o, n of those from a on lie behind
 -- Assumes nothing.
-use mathlib.Core.Path.{◌≡◌, refl, sym, ap, ◌∙◌}
+use mathlib.Core.Path.{◌≡◌, sym, ap, ◌∙◌}
 use mathlib.Core.List.{List, [], ◌∷◌}
 use Prim.Native.Nat.{ℕ, ◌+◌, ◌≤◌, ◌<◌}
 use native.Mathlib.Omega.{arith}
@@ -47,9 +47,6 @@ pub record Skipping (s : List ℕ) (a o n : ℕ) : Type 0 where
   pub end : steps_end s o ≡ steps_end s a
   pub count : n + length (steps_from s o) ≡ length (steps_from s a)
 
-pub skip_start : (s : List ℕ) (a : ℕ) → a ≤ length s → Whole s a → Skipping s a a 0
-skip_start s a h w = record { inside = h; few = omega arith; whole = w; end = refl; count = omega arith }
-
 module _ (s : List ℕ) (a o n : ℕ) (k : Skipping s a o n) where
   pub skip_more : (g p : ℕ) → o < length s → g ≡ group (byte_at s o) → g ≡ 5 → p ≡ next s o → Skipping s a p (n + 1)
   skip_more g p h e f q =
@@ -77,5 +74,3 @@ module _ (s : List ℕ) (a o n : ℕ) (k : Skipping s a o n) where
 
   pub skip_end : length s ≤ o → ◌≡◌ {A = Skipped} (record { at = o; count = n }) (skipped s a)
   skip_end h = stop (steps_end_lem s o h)
-
-pub ruleset skips = (skip_start, skip_more, skip_stop, skip_end)

@@ -1,4 +1,5 @@
 pub mod Missing
+pub mod Outcome
 pub mod Control
 pub mod Numbers
 pub mod Kinds

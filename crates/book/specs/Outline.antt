@@ -2,16 +2,14 @@
 --     pad                                    a list in an array of a fixed size
 --     shape_in, shapes_table                   a table of shapes
 --     outline_of                              the outline of a book
---     reading                                refusal and outline
+--     Reading, reading, read_by               refusal and outline; what a call gave
 -- Assumes nothing.
 use Rattle.std.specs.Prelude.{ℕ, ◌+◌, ◌-◌, ◌*◌, List, [], ◌∷◌, ◌++◌, map, length, replicate}
 use Rattle.labels.specs.Labels.{label, trust}
 use Rattle.book.specs.declared.Shape.{Shape}
 use Rattle.book.specs.declared.Counts.{Counts}
 use Rattle.book.specs.declared.Outline.{Outline}
-use Rattle.book.specs.declared.Refusal.{Refusal}
-use Rattle.book.specs.declared.Refusal.TheVariants.{Passed, Refused}
-use Rattle.book.specs.declared.Reading.{Reading}
+use Rattle.book.specs.Outcome.{Refusal, Passed, Refused, Given, outcome, given_or}
 use Rattle.book.specs.Numbers.{max_shapes, max_cells, max_blocks}
 use Rattle.book.specs.Records.{byte_at, next}
 use Rattle.book.specs.Book.{shapes_of, cells_of, blocks_of, steps_from, shape_at}
@@ -94,6 +92,11 @@ no_outline =
       lengths = replicate max_blocks 0;
     }
 
+-- "Refusals, each with a place", or the outline; after a refusal all of it is 0
+pub record Reading : Type 0 where
+  pub refusal : Refusal
+  pub outline : Outline
+
 abbrev pub refused_reading : ℕ → ℕ → Reading
 refused_reading n o = record { refusal = Refused n o; outline = no_outline }
 
@@ -103,3 +106,7 @@ reading_of (Refused n o) s = refused_reading n o
 
 abbrev pub reading : List ℕ → Reading
 reading s = reading_of (unreadable s) s
+
+-- what a call gave
+abbrev pub read_by : Given Outline → Reading
+read_by r = record { refusal = outcome r; outline = given_or no_outline r }

@@ -1,12 +1,12 @@
 -- A block's stretch of the book, and what stands at an offset.
---     found_block, stretch        "Asked for a block, a call hands back that block's stretch of the lent book, steps only."
+--     Found, found_block, stretch        "Asked for a block, a call hands back that block's stretch of the lent book, steps only."
+--     no_stretch, found_by        what stands for a stretch that was not found; what a call gave
 --     step_found, cell_found       the step, the declared cell that stands at an offset, if one does
 --     step_end                    the offset past the step that stands at an offset
 -- Assumes nothing.
 use Rattle.std.specs.Prelude.{ℕ, Bool, not, List, length, get_or, take, drop, ltb}
-use Rattle.book.specs.declared.Refusal.{Refusal}
-use Rattle.book.specs.declared.Refusal.TheVariants.{Passed, Refused}
-use Rattle.book.specs.declared.Found.{Found}
+use Rattle.book.specs.declared.Stretch.{Stretch}
+use Rattle.book.specs.Outcome.{Refusal, Passed, Refused, Given, outcome, given_or}
 use Rattle.book.specs.Missing.{StepAt}
 use Rattle.std.specs.Prelude.{None, Some}
 use Rattle.book.specs.Missing.{CellAt}
@@ -16,6 +16,15 @@ use Rattle.book.specs.Records.{next, cut, in_group}
 use Rattle.book.specs.Book.{blocks_of, step_at, declared_at}
 use Rattle.book.specs.Refusals.{unreadable}
 use Rattle.book.specs.Outline.{start_at, length_at}
+
+-- a refusal, or where a block's stretch starts in the book, and its length
+pub record Found : Type 0 where
+  pub refusal : Refusal
+  pub start : ℕ
+  pub length : ℕ
+
+abbrev pub no_stretch : Stretch
+no_stretch = record { start = 0; length = 0 }
 
 -- a refusal, with an empty stretch
 abbrev pub lost : ℕ → ℕ → Found
@@ -30,6 +39,10 @@ found_in Passed s i =
 
 abbrev pub found_block : List ℕ → ℕ → Found
 found_block s i = found_in (unreadable s) s i
+
+-- what a call gave
+abbrev pub found_by : Given Stretch → Found
+found_by r = let f = given_or no_stretch r in record { refusal = outcome r; start = f.start; length = f.length }
 
 unfoldable pub stretch : List ℕ → ℕ → List ℕ
 stretch s i = take (found_block s i).length (drop (found_block s i).start s)

@@ -1,4 +1,5 @@
-// The groups of kinds, in the order in which they stand; a block's steps are one more, and what is no kind is of none.
+// The groups of kinds, in the order in which they stand; a block's steps are one more, and what is no kind is of none. Numbers and no enum: `in_order`,
+// `block_group` and `count` of `faults` take any number, and by an enum they would ask more of callers.
 pub const NONE: u8 = 0;
 
 pub const C: u8 = 1;

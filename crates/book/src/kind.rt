@@ -1,4 +1,4 @@
-// The kinds of record.
+// The kinds of record: bytes of the book, and constants, since tests compare them as they come (`k < WRITE`).
 pub const C: u8 = 1;
 
 pub const PLAIN_SHAPE: u8 = 16;

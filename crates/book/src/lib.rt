@@ -7,8 +7,10 @@ pub mod limit;
 pub mod value_kind;
 
 ghost use Rattle.std.specs.Prelude.{◌≡◌};
-ghost use Rattle.book.specs.Outline.{no_counts, no_outline, refused_reading};
-ghost use Rattle.book.specs.Stretch.{lost};
+ghost use Rattle.book.specs.Outcome.{Passed, ground_number, outcome};
+ghost use Rattle.book.specs.Refusals.{or_refuse};
+ghost use Rattle.book.specs.Outline.{no_counts, no_outline};
+ghost use Rattle.book.specs.Stretch.{no_stretch};
 
 use labels::{Label, Trust};
 
@@ -29,7 +31,8 @@ pub enum Step {
     Choose(u8, u8, u8),
 }
 
-// A shape: 16 plain, 17 code of a bound, 18 cell of a content shape and a trust. What its kind does not have is 0.
+// A shape: 16 plain, 17 code of a bound, 18 cell of a content shape and a trust. What its kind does not have is 0. A struct and no enum: `shape_in`
+// reads any four bytes of a table, also a kind that is none, and typing asks by the kind.
 #[derive(Clone, Copy)]
 pub struct Shape {
     pub kind: u8,
@@ -54,14 +57,34 @@ pub struct Declared {
     pub value: Value,
 }
 
-// A refusal by its number and place, or none.
-#[derive(Clone, Copy)]
-pub enum Refusal {
-    Passed,
-    Refused { number: u8, place: usize },
+// Why a call is refused, by the number of the refusal.
+#[derive(Clone, Copy, PartialEq, Eq, PartialOrd, Ord)]
+pub enum Ground {
+    LongBook = 1,
+    Cut = 2,
+    OutOfOrder = 3,
+    TooMany = 4,
+    OutOfRange = 5,
+    Dangling = 6,
+    CellRule = 7,
+    StepRule = 8,
+    BadList = 9,
+    WrongTables = 10,
+    FewAnswers = 11,
+    NoBlock = 12,
+    ShortBuffer = 13,
+    HighLaunch = 14,
+    ManyTurns = 15,
 }
 
-// How many shapes, cells and blocks stand so far, and how many steps in the block.
+// A refusal: its ground, and its place.
+#[derive(Clone, Copy, PartialEq, Eq)]
+pub struct Refused {
+    pub why: Ground,
+    pub place: usize,
+}
+
+// How many shapes, cells and blocks stand so far, and how many steps in the block. A type of its own beside Counts, whose steps are those of the book.
 #[derive(Clone, Copy)]
 pub struct Tally {
     pub shapes: usize,
@@ -86,7 +109,8 @@ pub struct Skipped {
     pub count: usize,
 }
 
-// What a book says apart from its steps and its cells' values, in tables of numbers that can be lent. Unused entries are 0.
+// What a book says apart from its steps and its cells' values, in tables of numbers that can be lent. Unused entries are 0. Arrays with counts beside them:
+// the library runs in fixed memory, and `outline_of` fixes each entry.
 #[derive(Clone, Copy)]
 pub struct Outline {
     pub c: Label,
@@ -102,17 +126,9 @@ pub struct Outline {
     pub lengths: [u16; 64],
 }
 
-// What reading a book gives. After a refusal the outline is 0.
+// A block's stretch: where it starts in the book, and its length.
 #[derive(Clone, Copy)]
-pub struct Reading {
-    pub refusal: Refusal,
-    pub outline: Outline,
-}
-
-// A block's stretch: where it starts in the book, and its length. After a refusal both are 0.
-#[derive(Clone, Copy)]
-pub struct Found {
-    pub refusal: Refusal,
+pub struct Stretch {
     pub start: usize,
     pub length: usize,
 }
@@ -131,7 +147,7 @@ impl Counts {
 }
 
 impl Outline {
-    // All zero: what a refusal hands back. The counts are written out: with a call for them LLVM copies each outline once more.
+    // All zero: what stands for the outline of a book that is refused. The counts are written out: with a call for them LLVM copies an outline once more.
     pub fn empty() -> Outline
         ensures { result ≡ no_outline }
     {
@@ -153,32 +169,40 @@ impl Outline {
     }
 }
 
-impl Reading {
-    pub fn refused(number: u8, place: usize) -> Reading
-        ensures { result ≡ refused_reading number place }
+impl Stretch {
+    // What stands for a stretch that was not found.
+    pub fn none() -> Stretch
+        ensures { result ≡ no_stretch }
     {
-        let outline = Outline::empty();
-        Reading {
-            refusal: Refusal::Refused {
-                number: number,
-                place: place,
-            },
-            outline: outline,
+        Stretch {
+            start: 0,
+            length: 0,
         }
     }
 }
 
-impl Found {
-    pub fn lost(number: u8, place: usize) -> Found
-        ensures { result ≡ lost number place }
+impl Ground {
+    // The number of the refusal.
+    pub fn number(self) -> u8
+        ensures { result ≡ ground_number self }
     {
-        Found {
-            refusal: Refusal::Refused {
-                number: number,
-                place: place,
-            },
-            start: 0,
-            length: 0,
+        self as u8
+    }
+
+    // A refusal at a place.
+    pub fn at(self, place: usize) -> Refused
+        ensures { result ≡ record { why = self; place = place } }
+    {
+        Refused { why: self, place }
+    }
+
+    // Refuses a book of which a record is at fault.
+    pub fn refuse(self, fault: Option<usize>) -> Result<(), Refused>
+        ensures { outcome result ≡ or_refuse (ground_number self) fault Passed }
+    {
+        match fault {
+            Some(place) => Err(self.at(place)),
+            None => Ok(()),
         }
     }
 }

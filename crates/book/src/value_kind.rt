@@ -1,4 +1,4 @@
-// The kinds of values; any other is read as code.
+// The kinds of values; any other is read as code. Bytes of the book and of the lent tables, and so constants.
 pub const PLAIN: u8 = 0;
 
 pub const CELL: u8 = 1;

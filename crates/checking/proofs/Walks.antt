@@ -76,32 +76,28 @@ module _ (B : View) (w : List ℕ) (s : State) (o : ℕ) (z : Fault) (inv : faul
         passed u q = rw stood.on (simp (steps_more w o whole h stood.kind, fault, here (passes u) q) at inv)
 
         pub walk_on : y ≡ Passes → fault B (step_at w) s (steps_from w n) ≡ z
-        unfolding told
         walk_on q = passed s (ap (told s) q)
 
         pub walk_gives : (r : ℕ) (g : Register) → y ≡ Gives r g
             → fault B (step_at w) (record { p = s.p; lowered = s.lowered; registers = set s.registers r g }) (steps_from w n) ≡ z
-        unfolding told
         walk_gives r g q = passed _ (ap (told s) q)
 
         -- past the registers nothing is given
         pub walk_gives_none : (r : ℕ) (g : Register) → y ≡ Gives r g → length s.registers ≡ 8 → 8 ≤ r → fault B (step_at w) s (steps_from w n) ≡ z
-        unfolding told
         walk_gives_none r g q l m =
             let e : set s.registers r g ≡ s.registers = set_out s.registers r g (omega arith) in
             passed s (ap (told s) q ∙ ap (λ l. passes (record { p = s.p; lowered = s.lowered; registers = l })) e)
 
         pub walk_lowers : (q : Label) → y ≡ Lowers q
             → fault B (step_at w) (record { p = q; lowered = true; registers = s.registers }) (steps_from w n) ≡ z
-        unfolding told
         walk_lowers q e = passed _ (ap (told s) e)
 
         pub walk_stuck : (a : ℕ) → y ≡ Stuck → None ≡ shifted a z
-        unfolding fault shifted told
+        unfolding fault shifted
         walk_stuck a q = out a None (simp (steps_more w o whole h stood.kind, fault, here stuck (ap (told s) q)) at inv)
 
         pub walk_breaks : (a : ℕ) → y ≡ Breaks → Some (a + o) ≡ shifted a z
-        unfolding fault shifted told
+        unfolding fault shifted
         walk_breaks a q = out a (Some o) (simp (steps_more w o whole h stood.kind, fault, here breaks (ap (told s) q)) at inv)
 
 pub ruleset walks =

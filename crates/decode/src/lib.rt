@@ -114,7 +114,7 @@ pub fn decode_step(s: &[u8], o: usize) -> Step
     }
 }
 
-// The offset past the step that stands at an offset of a stretch; 0 where none does.
+// The offset past the step that stands at an offset of a stretch; 0 where none does, as the table of a round's jobs keeps it in 16 bits.
 pub fn step_end(stretch: &[u8], offset: usize) -> usize
     ensures { result ≡ step_end stretch.now offset }
 {

@@ -9,7 +9,7 @@ use native.Mathlib.Omega.{arith}
 use lib.Dec.{ltb}
 use lib.ListN.{length}
 use borrow.Author.Tests.{ltb-false}
-use Rattle.book.specs.declared.Refusal.TheVariants.{Passed, Refused}
+use Rattle.book.specs.Outcome.{Passed, Refused}
 use Rattle.book.proofs.Bounds.{PlacedIn, sweep_clean, offsets_below, stage, none_refused}
 use Rattle.events.specs.Bytes.{event_span, event_fault, unplayable}
 

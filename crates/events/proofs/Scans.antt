@@ -11,16 +11,18 @@ use lib.Dec.{ltb}
 use lib.ListN.{length, length-map}
 use borrow.Author.Tests.{lt-ltb, le-ltb, ltb-true, ltb-false, ne_eqb}
 use Rattle.labels.specs.Labels.{label}
-use Rattle.std.specs.Prelude.{None, Some}
-use Rattle.book.specs.declared.Refusal.TheVariants.{Passed}
+use Rattle.std.specs.Prelude.{Err, None, Some}
+use Rattle.book.specs.declared.Refused as D
+use Rattle.book.specs.declared.Ground.TheVariants.{BadList}
+use Rattle.book.specs.Outcome.{Passed}
 use Rattle.book.specs.Control.{first}
 use Rattle.book.specs.Records.{byte_at, number_at}
 use Rattle.book.specs.Refusals.{or_refuse}
 use Rattle.book.proofs.Spans as by
 use Rattle.machine.specs.declared.Event.TheVariants.{StepOf, WriteBy, RelabelBy, NewBy, ExecBy, StartBy}
-use Rattle.events.specs.declared.Scanned.{Scanned}
+use Rattle.events.specs.Bytes.{Scanned}
 use Rattle.events.specs.Asked.{Steps}
-use Rattle.events.specs.Bytes.{event_span, next_event, event_cut, offsets_from, event_at, events_from, event_fault, unplayable, refused_scan, scan_of, scanned}
+use Rattle.events.specs.Bytes.{event_span, next_event, event_cut, offsets_from, event_at, events_from, event_fault, unplayable, scan_by, scan_of, scanned}
 
 -- the bytes of each kind
 module _ (k : ℕ) where
@@ -125,9 +127,9 @@ pub record Scanning (l : List ℕ) (o n : ℕ) : Type 0 where
   pub fault : first (event_cut l) (offsets_from l o) ≡ event_fault l
   pub count : n + length (offsets_from l o) ≡ length (events_from l 0)
 
-pub scan_long : (l : List ℕ) (r : Scanned) → 65536 < length l → r ≡ refused_scan 9 0 → r ≡ scanned l
+pub scan_long : (l : List ℕ) (e : D.Refused) → 65536 < length l → e ≡ record { why = BadList; place = 0 } → scan_by (Err e) ≡ scanned l
 unfolding unplayable scan_of
-scan_long l r h e = e ∙ simp (lt-ltb _ _ h)
+scan_long l e h q = ap (λ e. scan_by (Err e)) q ∙ simp (lt-ltb _ _ h)
 
 scan_start : (l : List ℕ) → length l ≤ 65536 → Scanning l 0 0
 unfolding event_fault events_from
@@ -136,11 +138,11 @@ scan_start l h =
 
 module _ (l : List ℕ) (o n : ℕ) (k : Scanning l o n) where
   module _ (b : Bool) (eb : b ≡ event_cut l o) (h : o < length l) where
-    pub scan_bad : (r : Scanned) → b ≡ true → r ≡ refused_scan 9 o → r ≡ scanned l
+    pub scan_bad : (r : D.Refused) → b ≡ true → r ≡ record { why = BadList; place = o } → scan_by (Err r) ≡ scanned l
     unfolding unplayable scan_of or_refuse
     scan_bad r e x =
         let f : Some o ≡ event_fault l = by.fault_cut event_span l o (event_fault l) k.fault h (sym eb ∙ e) in
-        x ∙ simp (le-ltb _ _ k.short, ← f)
+        ap (λ e. scan_by (Err e)) x ∙ simp (le-ltb _ _ k.short, ← f)
 
     scan_on : (p : ℕ) → b ≡ false → p ≡ next_event l o → Scanning l p (n + 1)
     scan_on p e q =

@@ -13,7 +13,7 @@ use borrow.Author.Tests.{ltb-false}
 use Rattle.labels.proofs.Impossible.{impossible}
 use Rattle.book.specs.Missing.{Fault}
 use Rattle.std.specs.Prelude.{None, Some}
-use Rattle.book.specs.declared.Refusal.TheVariants.{Passed, Refused}
+use Rattle.book.specs.Outcome.{Passed, Refused}
 use Rattle.book.specs.Control.{first}
 use Rattle.book.specs.Refusals.{or_refuse}
 use Rattle.book.proofs.Spans as by

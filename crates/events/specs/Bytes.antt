@@ -3,20 +3,19 @@
 --     event_span                                  the bytes of an event of a kind
 --     next_event, event_cut, offsets_from           the events by their offsets
 --     event_at, events_from, events_in              what they say
---     event_fault, unplayable, scanned            refusal 9, and what the scan of a list hands back
+--     event_fault, unplayable, Scanned, scanned     refusal 9, and what the scan of a list hands back
+--     scan_by                                       what a call gave
 -- Assumes nothing.
 use Rattle.std.specs.Prelude.{ℕ, ◌+◌, Bool, List, map, length, ltb, eqb}
 use Rattle.labels.specs.Labels.{label}
 use Rattle.book.specs.Missing.{Fault}
-use Rattle.book.specs.declared.Refusal.{Refusal}
-use Rattle.book.specs.declared.Refusal.TheVariants.{Passed, Refused}
+use Rattle.book.specs.Outcome.{Refusal, Passed, Refused, Given, outcome, given_or}
 use Rattle.book.specs.Control.{when◌then◌else◌, first}
 use Rattle.book.specs.Spans.{byte_at, next_by, cut_by, offsets_by}
 use Rattle.book.specs.Records.{number_at}
 use Rattle.book.specs.Refusals.{or_refuse}
 use Rattle.machine.specs.declared.Event.{Event}
 use Rattle.machine.specs.declared.Event.TheVariants.{StepOf, WriteBy, RelabelBy, NewBy, ExecBy, StartBy}
-use Rattle.events.specs.declared.Scanned.{Scanned}
 
 -- "80 step job; by an outsider at label Q: 81 write ..; 82 relabel ..; 83 new ..; 84 exec ..; 85 start .."
 abbrev pub step_event : ℕ
@@ -94,6 +93,15 @@ event_fault list = first (event_cut list) (offsets_from list 0)
 -- 9: "The event list exceeds 65,536 bytes (place 0), or has an unknown kind or a cut body."
 unfoldable pub unplayable : List ℕ → Refusal
 unplayable list = when ltb max_list_bytes (length list) then Refused 9 0 else or_refuse 9 (event_fault list) Passed
+
+-- a refusal, or how many events a list has
+pub record Scanned : Type 0 where
+  pub refusal : Refusal
+  pub count : ℕ
+
+-- what a call gave
+abbrev pub scan_by : Given ℕ → Scanned
+scan_by r = record { refusal = outcome r; count = given_or 0 r }
 
 -- what a refusal at o hands back
 abbrev pub refused_scan : ℕ → ℕ → Scanned

@@ -3,18 +3,11 @@
 
 ghost use Rattle.std.specs.Prelude.{◌≡◌, ◌<◌, ◌≤◌, length};
 ghost use Rattle.events.specs.Asked.{Steps};
-ghost use Rattle.events.specs.Bytes.{event_span, next_event, event_cut, event_at, refused_scan, scanned};
+ghost use Rattle.events.specs.Bytes.{event_span, next_event, event_cut, event_at, scan_by, scanned};
 
-use book::Refusal;
+use book::{Ground, Refused};
 use labels::Label;
 use machine::{Event, kind};
-
-// What the scan of an event list gives: its refusal by 9, or how many events it has. After a refusal the count is 0.
-#[derive(Clone, Copy)]
-pub struct Scanned {
-    pub refusal: Refusal,
-    pub count: usize,
-}
 
 // The bytes of an event of a kind; 0 where no event has the kind.
 fn span_of(kind: u8) -> u8
@@ -95,20 +88,6 @@ pub fn event_at(list: &[u8], o: usize) -> Event
     }
 }
 
-impl Scanned {
-    fn refused(place: usize) -> Scanned
-        ensures { result ≡ refused_scan 9 place }
-    {
-        Scanned {
-            refusal: Refusal::Refused {
-                number: 9,
-                place: place,
-            },
-            count: 0,
-        }
-    }
-}
-
 // Steps that were passed over: the offset behind them, and how many they are.
 #[derive(Clone, Copy)]
 struct StepsPassed {
@@ -123,6 +102,7 @@ fn pass_steps(list: &[u8], from: usize) -> StepsPassed
 {
     let mut o = from;
     let mut n: usize = 0;
+    // Two bytes at once, up to the first event that is no step: an iterator would be asked what stands there.
     while o + 1 < list.len() {
         let k = list[o];
         if k != kind::STEP {
@@ -135,25 +115,23 @@ fn pass_steps(list: &[u8], from: usize) -> StepsPassed
 }
 
 // Scans an event list: its refusal by 9, or its count of events.
-pub fn scan(list: &[u8]) -> Scanned
-    ensures { result ≡ scanned list.now }
+pub fn scan(list: &[u8]) -> Result<usize, Refused>
+    ensures { scan_by result ≡ scanned list.now }
 {
     if 65536 < list.len() {
-        return Scanned::refused(0);
+        return Err(Ground::BadList.at(0));
     }
     let first = pass_steps(list, 0);
     let mut o = first.at;
     let mut n = first.count;
+    // By the offset behind the steps that were passed over, and so no `for`.
     while o < list.len() {
         if is_cut(list, o) {
-            return Scanned::refused(o);
+            return Err(Ground::BadList.at(o));
         }
         let r = pass_steps(list, next_event(list, o));
         o = r.at;
         n = n + 1 + r.count;
     }
-    Scanned {
-        refusal: Refusal::Passed,
-        count: n,
-    }
+    Ok(n)
 }

@@ -4,6 +4,7 @@ ghost use Rattle.book.specs.Refusals.{cell_named, step_named, dangling, name_fau
 ghost use Rattle.book.specs.Asked.{Outlined, is_cell_shape_in};
 
 use book::{Declared, Outline, Step, Value, group, kind};
+use records::Reader;
 
 // The shape of this number is a cell shape.
 fn is_cell_shape(shapes: &[u8], i: u8) -> bool
@@ -67,6 +68,7 @@ fn is_dangling(s: &[u8], o: usize, n: usize, shapes: &[u8], cells: usize, blocks
 }
 
 // 6: the first record that names what the book does not have.
+#[tactic(auto, using(crate::proofs::Sweeps::names))]
 pub fn name_fault(s: &[u8], t: Outline) -> Option<usize>
     requires { Outlined s.now t }
     ensures { result ≡ name_fault s.now }
@@ -74,16 +76,12 @@ pub fn name_fault(s: &[u8], t: Outline) -> Option<usize>
     let shapes = t.shapes;
     let cells = t.counts.cells;
     let blocks = t.counts.blocks;
-    let mut o: usize = 0;
     let mut n: usize = 0;
-    while o < s.len() {
+    for o in Reader::new(s) {
         if is_dangling(s, o, n, &shapes, cells, blocks) {
             return Some(o);
         }
-        let k = s[o];
-        let g = records::group_of(k);
-        o = records::next_record(s, o);
-        if g == group::SHAPES {
+        if records::group_of(s[o]) == group::SHAPES {
             n = n + 1;
         }
     }

@@ -2,25 +2,26 @@
 ghost use Rattle.std.specs.Prelude.{◌≡◌, false, ◌<◌, min, length};
 ghost use Rattle.book.specs.Refusals.{cut_fault, in_order, order_fault, counted, too_many, count_fault, out_of_range, range_fault};
 ghost use Rattle.book.specs.Asked.{Whole, limit};
+ghost use Rattle.book.specs.Records.{cut};
 
 use book::{Tally, group, kind, limit};
+use records::Reader;
+
+// The record at an offset is of a kind that is none, or the book ends in its body.
+#[tactic(auto, using(crate::proofs::Sweeps::cuts))]
+fn is_cut(s: &[u8], o: usize) -> bool
+    requires { o < length s.now }
+    ensures { result ≡ cut s.now o }
+{
+    let end = records::next_record(s, o);
+    end == o || s.len() < end
+}
 
 // 2: a kind that is none, or a body that the book ends in.
 pub fn cut_fault(s: &[u8]) -> Option<usize>
     ensures { result ≡ cut_fault s.now }
 {
-    let mut o: usize = 0;
-    while o < s.len() {
-        let end = records::next_record(s, o);
-        if end == o {
-            return Some(o);
-        }
-        if s.len() < end {
-            return Some(o);
-        }
-        o = end;
-    }
-    None
+    Reader::new(s).find(|&o| is_cut(s, o))
 }
 
 // A record of group g may stand after one of group p.
@@ -47,27 +48,24 @@ pub fn block_group(g: u8) -> u8
 }
 
 // 3: the first record is not C, a record is out of order, or no block stands.
+#[tactic(auto, using(crate::proofs::Sweeps::orders))]
 pub fn order_fault(s: &[u8]) -> Option<usize>
     requires { Whole s.now 0 }
     ensures { result ≡ order_fault s.now }
 {
-    let mut o: usize = 0;
     let mut p = group::NONE;
-    while o < s.len() {
-        let k = s[o];
-        let g = records::group_of(k);
-        let ok = in_order(p, g);
-        if ok {
-            p = block_group(g);
-            o = records::next_record(s, o);
-        } else {
+    for o in Reader::new(s) {
+        let g = records::group_of(s[o]);
+        if !in_order(p, g) {
             return Some(o);
         }
+        p = block_group(g);
     }
     if p == group::BLOCKS {
-        return None;
+        None
+    } else {
+        Some(s.len())
     }
-    Some(s.len())
 }
 
 // One record more.
@@ -112,25 +110,23 @@ pub fn too_many(n: Tally) -> bool
 }
 
 // 4: a record beyond 32 shapes, 32 cells, 64 blocks or 64 steps in a block.
+#[tactic(auto, using(crate::proofs::Sweeps::tallies))]
 pub fn count_fault(s: &[u8]) -> Option<usize>
     requires { Whole s.now 0 }
     ensures { result ≡ count_fault s.now }
 {
-    let mut o: usize = 0;
     let mut n = Tally {
         shapes: 0,
         cells: 0,
         blocks: 0,
         steps: 0,
     };
-    while o < s.len() {
-        let k = s[o];
-        let m = count(n, records::group_of(k));
-        if too_many(m) {
+    for o in Reader::new(s) {
+        n = count(n, records::group_of(s[o]));
+        let many = too_many(n);
+        if many {
             return Some(o);
         }
-        n = m;
-        o = records::next_record(s, o);
     }
     None
 }
@@ -248,12 +244,5 @@ pub fn range_fault(s: &[u8]) -> Option<usize>
     requires { Whole s.now 0 }
     ensures { result ≡ range_fault s.now }
 {
-    let mut o: usize = 0;
-    while o < s.len() {
-        if out_of_range(s, o) {
-            return Some(o);
-        }
-        o = records::next_record(s, o);
-    }
-    None
+    Reader::new(s).find(|&o| out_of_range(s, o))
 }

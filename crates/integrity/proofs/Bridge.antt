@@ -14,8 +14,8 @@ use Rattle.book.specs.declared.Shape.{Shape}
 use Rattle.book.specs.declared.Step.{Step}
 use Rattle.book.specs.Missing.{Fault}
 use Rattle.std.specs.Prelude.{None, Some}
-use Rattle.book.specs.declared.Refusal.{Refusal}
-use Rattle.book.specs.declared.Refusal.TheVariants as B
+use Rattle.book.specs.Outcome.{Refusal}
+use Rattle.book.specs.Outcome as B
 use Rattle.book.specs.Control.{either, sweep, first}
 use Rattle.book.specs.Kinds.{limits}
 use Rattle.book.specs.Records.{byte_at, records, in_group}
@@ -27,8 +27,8 @@ use Rattle.book.proofs.Sweep.{somewhere}
 use Rattle.book.proofs.Lower.{content_lower}
 use Rattle.book.proofs.Readable.{readable}
 use Rattle.typing.specs.declared.State.{State}
-use Rattle.typing.specs.declared.Verdict.{Verdict}
-use Rattle.typing.specs.declared.Verdict.TheVariants as Verdicts
+use Rattle.typing.specs.Verdict.{Verdict}
+use Rattle.typing.specs.Verdict as Verdicts
 use Rattle.typing.specs.Shapes.{View, view_of, declared_ok}
 use Rattle.typing.specs.Rules.{Typed, passes, stuck, breaks, fresh, step_rule, fault}
 use Rattle.typing.specs.Verdict.{cell_fault, or_then, block_fault, step_fault, or_refused, typed, verdict_of, verdict}

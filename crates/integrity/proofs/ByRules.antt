@@ -20,7 +20,7 @@ use Rattle.book.proofs.Every.{All}
 use Rattle.typing.specs.declared.Known.{Known}
 use Rattle.typing.specs.declared.Known.TheVariants as N
 use Rattle.typing.specs.declared.State.{State}
-use Rattle.typing.specs.declared.Verdict.TheVariants.{Accepted}
+use Rattle.typing.specs.Verdict.{Accepted}
 use Rattle.typing.specs.Shapes.{View, view_of, content_of, counted_trust, is_high_trust, alike_in, alike, fits, known_value, declared_ok}
 use Rattle.typing.specs.Rules.{Typed, passes, stuck, breaks, fresh, holds, low_rule, high_rule, step_rule}
 use Rattle.typing.specs.Rules as R

@@ -17,10 +17,9 @@ use Rattle.book.specs.Book.{group_of, steps_from, shape_at, value_of, declared_a
 use Rattle.book.specs.Refusals.{cut_fault, in_order, misplaced, order_fault, counted, too_many, beyond, count_fault, above, out_of_range, range_fault, value_named, cell_named}
 use Rattle.book.specs.Refusals.{step_named, dangling, dangles, name_fault, or_refuse, unreadable}
 use Rattle.book.specs.Outline.{step_count}
-use Rattle.book.specs.declared.Refusal.{Refusal}
-use Rattle.book.specs.declared.Refusal.TheVariants.{Passed}
-use Rattle.typing.specs.declared.Verdict.{Verdict}
-use Rattle.typing.specs.declared.Verdict.TheVariants.{Accepted, Refused}
+use Rattle.book.specs.Outcome.{Refusal, Passed}
+use Rattle.typing.specs.Verdict.{Verdict}
+use Rattle.typing.specs.Verdict.{Accepted, Refused}
 use Rattle.typing.specs.Shapes.{view_of, alike_in, alike, known_of, fits, known_value, declared_ok}
 use Rattle.typing.specs.Rules.{breaks_unless, stuck_unless, is_plainly, fresh, known, plain_or_low, holds, low_rule, high_rule, step_rule, fault}
 use Rattle.typing.specs.Rules as R

@@ -11,14 +11,13 @@ use borrow.Author.Tests.{leb-true, le-leb, lt-ltb, ltb-false}
 use Rattle.labels.proofs.Impossible.{impossible}
 use Rattle.labels.specs.declared.Label.{Label}
 use Rattle.labels.specs.Labels.{reaches, is_above}
-use Rattle.book.specs.declared.Refusal.{Refusal}
-use Rattle.book.specs.declared.Refusal.TheVariants.{Passed, Refused}
+use Rattle.book.specs.Outcome.{Refusal, Passed, Refused}
 use Rattle.book.specs.Records.{byte_at}
 use Rattle.book.specs.Book.{Book, parse}
 use Rattle.book.specs.Refusals.{unreadable}
 use Rattle.book.proofs.Every.{all_in, map_from}
 use Rattle.book.proofs.Parsed.{sound}
-use Rattle.typing.specs.declared.Verdict.TheVariants.{Accepted}
+use Rattle.typing.specs.Verdict.{Accepted}
 use Rattle.typing.specs.Verdict.{verdict}
 use Rattle.machine.specs.Launch.{Launch}
 use Rattle.std.specs.Prelude.{None, Some}

@@ -5,7 +5,7 @@ use mathlib.Core.List.{List, [], ◌∷◌, Memᴰ}
 use Rattle.labels.specs.declared.Label.{Label}
 use Rattle.labels.specs.Labels.{reaches, is_above, is_met, is_high}
 use Rattle.book.specs.Book.{Book, parse}
-use Rattle.typing.specs.declared.Verdict.TheVariants.{Accepted}
+use Rattle.typing.specs.Verdict.{Accepted}
 use Rattle.typing.specs.Verdict.{verdict}
 use Rattle.machine.specs.declared.Event.{Event}
 use Rattle.machine.specs.Histories.{History, hands, lists}

@@ -15,7 +15,7 @@ use Rattle.book.specs.declared.Step.TheVariants.{Put, Name, Code, Add, New, Read
 use Rattle.book.specs.Control.{both, on_some}
 use Rattle.book.specs.Book.{Book, parse}
 use Rattle.book.specs.Refusals.{has_cell_shape}
-use Rattle.typing.specs.declared.Verdict.TheVariants.{Accepted}
+use Rattle.typing.specs.Verdict.{Accepted}
 use Rattle.typing.specs.Verdict.{verdict}
 use Rattle.machine.specs.declared.Event.{Event}
 use Rattle.machine.specs.declared.Event.TheVariants.{StepOf, WriteBy, RelabelBy, NewBy, ExecBy, StartBy}

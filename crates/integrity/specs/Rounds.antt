@@ -2,9 +2,9 @@
 --     RoundTables
 -- proofs/Rounds.antt proves it. All names here are of specs/, of this crate or of those below it. Assumes nothing.
 use Rattle.std.specs.Prelude.{◌≡◌, List, ℕ}
-use Rattle.book.specs.declared.Refusal.TheVariants.{Passed}
+use Rattle.book.specs.Outcome.{Passed}
 use Rattle.book.specs.Book.{parse}
-use Rattle.typing.specs.declared.Verdict.TheVariants.{Accepted}
+use Rattle.typing.specs.Verdict.{Accepted}
 use Rattle.typing.specs.Verdict.{verdict}
 use Rattle.machine.specs.Launch.{Launch}
 use Rattle.scheduler.specs.Rounds.{rounded}

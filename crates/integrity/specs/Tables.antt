@@ -3,12 +3,12 @@
 -- bytes: proofs/JobsFit.antt, proofs/NumbersFit.antt. All names here are of specs/, of this crate or of those below it. Assumes nothing.
 use Rattle.std.specs.Prelude.{◌≡◌, List, ℕ, ◌+◌, ◌*◌, ◌<◌, ◌≤◌, length}
 use Rattle.labels.specs.declared.Label.{Label}
-use Rattle.book.specs.declared.Refusal.TheVariants.{Passed}
+use Rattle.book.specs.Outcome.{Passed}
 use Rattle.book.specs.Records.{byte_at}
 pub use Rattle.book.specs.Spans.{Bytes}
 use Rattle.book.specs.Book.{Book, parse}
 use Rattle.book.specs.Refusals.{unreadable}
-use Rattle.typing.specs.declared.Verdict.TheVariants.{Accepted}
+use Rattle.typing.specs.Verdict.{Accepted}
 use Rattle.typing.specs.Verdict.{verdict}
 use Rattle.machine.specs.Launch.{Launch}
 use Rattle.machine.specs.Histories.{History}

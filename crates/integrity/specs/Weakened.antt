@@ -15,14 +15,14 @@ use Rattle.book.specs.declared.Shape.{Shape}
 use Rattle.book.specs.declared.Declared.{Declared}
 use Rattle.book.specs.declared.Step.{Step}
 use Rattle.book.specs.declared.Step.TheVariants.{Put, Name, Code, Add, New, Read, Write, Relabel, Lower, Start, Exec, Choose}
-use Rattle.book.specs.declared.Refusal.TheVariants.{Passed}
+use Rattle.book.specs.Outcome.{Passed}
 use Rattle.book.specs.Control.{when◌then◌else◌, both, either}
 use Rattle.book.specs.Book.{Book, Block, parse}
 use Rattle.book.specs.Refusals.{unreadable}
 use Rattle.typing.specs.declared.Known.{Known}
 use Rattle.typing.specs.declared.Known.TheVariants as N
 use Rattle.typing.specs.declared.State.{State}
-use Rattle.typing.specs.declared.Verdict.TheVariants.{Accepted, Refused}
+use Rattle.typing.specs.Verdict.{Accepted, Refused}
 use Rattle.typing.specs.Shapes.{View, view_of, is_plain_shape, is_code_shape, is_cell_shape, bound_of, content_of, counted_trust, is_high_trust, known_of, known_value}
 use Rattle.typing.specs.Rules.{Typed, passes, stuck, breaks, breaks_unless, stuck_unless, on_known_cell, on_known_code, register_type, gives, gives_low, fresh, used, is_low}
 use Rattle.typing.specs.Rules.{known, lowers_to, plain_or_low, startable, low_rule, high_rule, step_rule}

@@ -20,7 +20,7 @@ use Rattle.machine.specs.declared.Event.TheVariants.{StepOf, WriteBy, RelabelBy,
 use Rattle.machine.specs.Histories.{sources}
 use Rattle.machine.specs.States.{State}
 use Rattle.machine.specs.Events.{table_size, no_such, unchanged, landed, outcome_of}
-use Rattle.outsiders.specs.Outside.{low_cell_shape, such_value, such_write, such_relabel, such_new, such_number, such, outside}
+use Rattle.outsiders.specs.Outside.{low_cell_shape, such_value, such, outside}
 use Rattle.events.specs.Bytes.{event_at}
 
 -- no step
@@ -53,7 +53,7 @@ module _ (b : List ℕ) (shape : ℕ → Shape) (shapes_are : (i : ℕ) → shap
   pub act_is : (e : Event) → Outsider e
       → outcome_of sources table_size (parse b) s e
       ≡ given (such (parse b).c shape blocks (length s.cells) e) (landed s s (outside s e)) (unchanged no_such s)
-  unfolding outcome_of such such_write such_relabel such_new such_number such_value low_cell_shape outside
+  unfolding outcome_of such such_value low_cell_shape outside
   act_is (StepOf i) x = elim x [ ]
   act_is (WriteBy q k v n) writes = rw blocks_are refl
   act_is (RelabelBy q k l) relabels = refl

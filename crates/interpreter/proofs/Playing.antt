@@ -15,7 +15,7 @@ use mir.Syntax.{w64}
 use lib.ListN.{length, take, get_or, set, replicate, length-set, length-map}
 use Rattle.labels.specs.declared.Label.{Label}
 use Rattle.labels.specs.Labels.{label}
-use Rattle.book.specs.declared.Refusal.TheVariants.{Passed}
+use Rattle.book.specs.Outcome.{Passed}
 use Rattle.book.specs.Spans.{byte_at}
 use Rattle.book.specs.Stretch.{step_end}
 use Rattle.book.specs.Book.{parse, blocks_of, block_at}

@@ -5,8 +5,7 @@ use mathlib.Core.Path.{◌≡◌, refl}
 use mathlib.Core.List.{List}
 use Prim.Native.Nat.{ℕ}
 use Rattle.labels.specs.declared.Label.{Label}
-use Rattle.book.specs.declared.Refusal.{Refusal}
-use Rattle.book.specs.declared.Refusal.TheVariants.{Passed, Refused}
+use Rattle.book.specs.Outcome.{Refusal, Passed, Refused}
 use Rattle.interpreter.specs.Run.{played, ran_of}
 
 pub refusal_is : (r : Refusal) (book : List ℕ) (l : Label) (list cells jobs room : List ℕ) → (ran_of r book l list cells jobs room).refusal ≡ r

@@ -9,7 +9,7 @@ use native.Mathlib.Omega.{arith}
 use lib.Dec.{ltb}
 use lib.ListN.{length, get_or, length-map, get_or-eq_default}
 use borrow.Author.Tests.{ltb-true, ltb-false}
-use Rattle.book.specs.declared.Refusal.TheVariants.{Passed}
+use Rattle.book.specs.Outcome.{Passed}
 use Rattle.book.specs.Control.{sweep}
 use Rattle.book.specs.Book.{Block, parse, blocks_of, block_at, step_at, steps_from}
 use Rattle.book.specs.Refusals.{unreadable}

@@ -8,7 +8,7 @@ use Prim.Native.Nat.{ℕ, zero, suc, ◌+◌, ◌-◌, ◌<◌, ◌≤◌}
 use native.Mathlib.Omega.{arith}
 use lib.ListN.{length, get_or, set}
 use Rattle.labels.specs.declared.Label.{Label}
-use Rattle.book.specs.declared.Refusal.TheVariants.{Passed}
+use Rattle.book.specs.Outcome.{Passed}
 use Rattle.std.specs.Prelude.{Some}
 use Rattle.book.specs.declared.Value.TheVariants.{CellName}
 use Rattle.book.specs.Spans.{byte_at}
@@ -30,7 +30,6 @@ use Rattle.acts.specs.declared.Stored.{Stored}
 use Rattle.acts.specs.declared.Act.{Act}
 use Rattle.acts.specs.declared.Act.TheVariants.{Blocked, Give, Lower, Store, Create, Launch}
 use Rattle.acts.specs.Views.{value_in, stored_of, job_of, nearby, effect_of, job_after, answer_of, lowered, clamped, sort_of, Only, waits, acts}
-use Rattle.acts.specs.Views.{give_sort, lower_sort, store_sort, create_sort, launch_sort}
 use Rattle.turns.specs.Turns.{target_in, reached_in, Takes, Gives, Changes, Launches}
 use Rattle.turns.proofs.Targets.{target_number}
 use Rattle.interpreter.proofs.Nearby.{Allowed, store_inside, create_room, launch_room}
@@ -68,31 +67,23 @@ blocks n Blocked o k = refl
 blocks n x (waits e) k = absurd (omega arith)
 blocks n x (acts e) k = absurd (k e)
 
--- the code tells it by the one kind
-pub no_give : (x : Act) → ((r : ℕ) (v : Stored) → x ≡ Give r v → ⊥) → sort_of x ≡ give_sort → ⊥
-unfolding sort_of
-no_give (Give r v) k e = k r v refl
-no_give x k e = omega arith
+-- x is not of sort n, as the code tells it: by the one kind
+abbrev pub Not : ℕ → Act → Type 0
+Not (suc zero) x = (r : ℕ) (v : Stored) → x ≡ Give r v → ⊥
+Not (suc (suc zero)) x = (l s : Label) → x ≡ Lower l s → ⊥
+Not (suc (suc (suc zero))) x = (y : StoredCell) → x ≡ Store y → ⊥
+Not (suc (suc (suc (suc zero)))) x = (r : ℕ) (y : StoredCell) → x ≡ Create r y → ⊥
+Not (suc (suc (suc (suc (suc zero))))) x = (b : ℕ) (l s : Label) → x ≡ Launch b l s → ⊥
+Not n x = sort_of x ≡ n → ⊥
 
-pub no_lower : (x : Act) → ((l s : Label) → x ≡ Lower l s → ⊥) → sort_of x ≡ lower_sort → ⊥
+not_sort : (n : ℕ) (x : Act) → Not n x → sort_of x ≡ n → ⊥
 unfolding sort_of
-no_lower (Lower l s) k e = k l s refl
-no_lower x k e = omega arith
-
-pub no_store : (x : Act) → ((y : StoredCell) → x ≡ Store y → ⊥) → sort_of x ≡ store_sort → ⊥
-unfolding sort_of
-no_store (Store y) k e = k y refl
-no_store x k e = omega arith
-
-pub no_create : (x : Act) → ((r : ℕ) (y : StoredCell) → x ≡ Create r y → ⊥) → sort_of x ≡ create_sort → ⊥
-unfolding sort_of
-no_create (Create r y) k e = k r y refl
-no_create x k e = omega arith
-
-pub no_launch : (x : Act) → ((b : ℕ) (l s : Label) → x ≡ Launch b l s → ⊥) → sort_of x ≡ launch_sort → ⊥
-unfolding sort_of
-no_launch (Launch b l s) k e = k b l s refl
-no_launch x k e = omega arith
+not_sort n Blocked k e = (rw (← e) at k) refl
+not_sort n (Give r v) k e = (rw (← e) at k) r v refl
+not_sort n (Lower l s) k e = (rw (← e) at k) l s refl
+not_sort n (Store y) k e = (rw (← e) at k) y refl
+not_sort n (Create r y) k e = (rw (← e) at k) r y refl
+not_sort n (Launch b l s) k e = (rw (← e) at k) b l s refl
 
 -- a step that stands, its cell looked up: the state and the arrays that hold it, the job's number i, where the step stands, z, and ends, u, the
 -- register t that names the cell, and its entry q of the table
@@ -176,8 +167,8 @@ module _ {b starts : List ℕ} {state : State Label} {cells : List StoredCell} {
     unfolding job_after state_of answer_of
     step_blocked e = stepped (get_or jobs i d) (rw e refl) 1 (rw e refl) cells n jobs m (rw e step.holds)
 
-    pub step_waits : (sort_of x ≡ f → ⊥) → Onward 1 cells n jobs m
-    step_waits k = step_blocked (blocks f x ex.only k)
+    pub step_waits : Not f x → Onward 1 cells n jobs m
+    step_waits k = step_blocked (blocks f x ex.only (not_sort f x k))
 
     pub step_room : (y : ℕ) (v : StoredCell) → x ≡ Create y v → n < 64
     unfolding effect_of

@@ -8,7 +8,7 @@
 -- Assumes nothing.
 use Rattle.std.specs.Prelude.{ℕ, ◌<◌, ◌≤◌, ◌≡◌, List, map, length, take, drop, get_or}
 use Rattle.labels.specs.declared.Label.{Label}
-use Rattle.book.specs.declared.Refusal.TheVariants.{Passed}
+use Rattle.book.specs.Outcome.{Passed}
 use Rattle.book.specs.Book.{parse, cells_of, blocks_of, step_at, steps_from}
 use Rattle.book.specs.Refusals.{no_shape, unreadable}
 use Rattle.book.specs.Outline.{shape_in, start_at}

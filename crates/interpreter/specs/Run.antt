@@ -7,8 +7,7 @@
 use Rattle.std.specs.Prelude.{ℕ, List, ◌++◌, ltb, eqb, length, drop}
 use Rattle.labels.specs.declared.Label.{Label}
 use Rattle.labels.specs.Labels.{is_above}
-use Rattle.book.specs.declared.Refusal.{Refusal}
-use Rattle.book.specs.declared.Refusal.TheVariants.{Passed, Refused}
+use Rattle.book.specs.Outcome.{Refusal, Passed, Refused, Given, outcome, given_or}
 use Rattle.book.specs.Control.{when◌then◌else◌, both}
 use Rattle.book.specs.Book.{parse}
 use Rattle.book.specs.Refusals.{unreadable}
@@ -21,7 +20,7 @@ use Rattle.machine.specs.Events.{table_size, first_bound, launch_label, fresh_st
 use Rattle.machine.specs.Records.{cell_records, job_records}
 use Rattle.events.specs.Bytes.{events_in, unplayable}
 use Rattle.tables.specs.Bytes.{cell_table_length, job_table_length, cell_table, job_table}
-use Rattle.interpreter.specs.declared.RunResult.{RunResult}
+use Rattle.interpreter.specs.declared.InUse.{InUse}
 
 -- "a stage covers the whole book before the next begins"
 unfoldable pub or_next : Refusal → Refusal → Refusal
@@ -63,9 +62,10 @@ pub record Run : Type 0 where
   pub answered : List ℕ
 
 -- what a call gave, and what it left in the cell table, the job table and the answer buffer
-abbrev pub run_by : RunResult → List ℕ → List ℕ → List ℕ → Run
+abbrev pub run_by : Given InUse → List ℕ → List ℕ → List ℕ → Run
 run_by r cells jobs answered =
-    record { refusal = r.refusal; cell_count = r.cells; job_count = r.jobs; cells = cells; jobs = jobs; answered = answered }
+    let u = given_or (record { cells = 0; jobs = 0 }) r in
+    record { refusal = outcome r; cell_count = u.cells; job_count = u.jobs; cells = cells; jobs = jobs; answered = answered }
 
 -- the machine's state after the events, job 0 at the label l: "A run begins fresh"
 abbrev pub final_state : List ℕ → Label → List ℕ → State History

@@ -1,20 +1,19 @@
 // The events of a run, one after the other, from the fresh state to the saved tables.
 #![tactic(auto)]
 
-ghost use Rattle.std.specs.Prelude.{◌≡◌, ◌≤◌};
-ghost use Rattle.book.specs.declared.Refusal.TheVariants.{Passed};
+ghost use Rattle.std.specs.Prelude.{◌≡◌, ◌≤◌, Ok};
+ghost use Rattle.book.specs.Outcome.{Passed};
 ghost use Rattle.interpreter.specs.Loop.{Ready};
 ghost use Rattle.interpreter.specs.Run.{run_by, ran_of};
 
 use acts::{Act, Near, StoredJob};
-use book::{Refusal, kind};
+use book::kind;
 use labels::Label;
 use machine::answer;
 
-// What a run gives: its refusal, or the cells and jobs in use. After a refusal both are 0.
+// The cells and jobs in use after a run.
 #[derive(Clone, Copy)]
-pub struct RunResult {
-    pub refusal: Refusal,
+pub struct InUse {
     pub cells: usize,
     pub jobs: usize,
 }
@@ -32,12 +31,13 @@ pub fn play(
     cells: &mut [u8],
     jobs: &mut [u8],
     answers: &mut [u8],
-) -> RunResult
+) -> InUse
     requires { Ready book.now c shapes.now offsets.now starts.now list.now cells.old jobs.old answers.old }
-    ensures answers_after { run_by result cells.new jobs.new answers.new
+    ensures answers_after { run_by (Ok result) cells.new jobs.new answers.new
         ≡ ran_of Passed book.now launch list.now cells.old jobs.old answers.old }
     ensures cells_bound { (result.cells ≤ 64) × (result.jobs ≤ 64) }
 {
+    // Arrays of 64 with how many are in use: the library runs in fixed memory.
     let mut held = tables::open_cells(book, offsets);
     let none = StoredJob::fresh(0, 0, Label(0), Label(0));
     let mut begun = [none; StoredJob::TABLE_SIZE];
@@ -47,6 +47,7 @@ pub fn play(
     let mut m: usize = 1;
     let mut o: usize = 0;
     let mut at: usize = 0;
+    // By the bytes of each event, which its own arm knows, and so no `for`.
     while o < list.len() {
         let slot = at;
         at = at + 1;
@@ -62,9 +63,8 @@ pub fn play(
                     continue;
                 }
                 let k = records::byte(book, place);
-                let j = begun[i];
-                let registers = j.registers;
-                let u = turns::target_of(book, place, j.source, registers);
+                let j = &begun[i];
+                let u = turns::target_of(book, place, j);
                 let q = acts::clamp(u.number as usize);
                 let cell = held[q];
                 let near = Near {
@@ -73,9 +73,9 @@ pub fn play(
                     jobs: m,
                 };
                 if k == kind::NEW {
-                    let x = turns::create(book, place, j.label, j.source, registers, near);
+                    let x = turns::create(book, place, j, near);
                     if let Act::Create(r, d) = x {
-                        let t = acts::names(j, past, r, n);
+                        let t = j.names(past, r, n);
                         begun[i] = t;
                         held[n] = d;
                         n = n + 1;
@@ -84,18 +84,18 @@ pub fn play(
                         answers[slot] = answer::BLOCKED;
                     }
                 } else if k < kind::WRITE {
-                    let x = turns::give(book, place, j.label, j.source, registers, near, u);
+                    let x = turns::give(book, place, j, near, u);
                     if let Act::Give(r, v) = x {
-                        let t = acts::gets(j, past, r, v);
+                        let t = j.gets(past, r, v);
                         begun[i] = t;
                         answers[slot] = answer::DONE;
                     } else {
                         answers[slot] = answer::BLOCKED;
                     }
                 } else if k < kind::LOWER {
-                    let x = turns::change(book, place, j.label, j.source, registers, near, u);
+                    let x = turns::change(book, place, j, near, u);
                     if let Act::Store(d) = x {
-                        let t = acts::moved(j, past);
+                        let t = j.moved(past);
                         begun[i] = t;
                         held[q] = d;
                         answers[slot] = answer::DONE;
@@ -103,18 +103,18 @@ pub fn play(
                         answers[slot] = answer::BLOCKED;
                     }
                 } else if k == kind::LOWER {
-                    let x = turns::lower(book, place, j.label, j.source, registers, near);
+                    let x = turns::lower(book, place, j, near);
                     if let Act::Lower(l, h) = x {
-                        let t = acts::lowered(j, past, l, h);
+                        let t = j.lowered(past, l, h);
                         begun[i] = t;
                         answers[slot] = answer::DONE;
                     } else {
                         answers[slot] = answer::BLOCKED;
                     }
                 } else {
-                    let x = turns::launch(book, place, j.label, j.source, registers, near, u);
+                    let x = turns::launch(book, place, j, near, u);
                     if let Act::Launch(b, l, h) = x {
-                        let t = acts::moved(j, past);
+                        let t = j.moved(past);
                         begun[i] = t;
                         let child = StoredJob::fresh(
                             b,
@@ -148,7 +148,7 @@ pub fn play(
                         jobs: m,
                     },
                 );
-                answers[slot] = acts::answer_of(x);
+                answers[slot] = x.answer();
                 match x {
                     Act::Blocked => {}
                     Act::Give(_, _) => {}
@@ -177,16 +177,9 @@ pub fn play(
         }
     }
     tables::save_cells(held, n, shapes, cells);
-    let mut y: usize = 0;
-    while y < m {
-        let j = begun[y];
-        tables::save_job(j, y, jobs);
-        y = y + 1;
+    for y in 0..m {
+        tables::save_job(begun[y], y, jobs);
     }
     tables::clear_from(jobs, m * StoredJob::BYTES);
-    RunResult {
-        refusal: Refusal::Passed,
-        cells: n,
-        jobs: m,
-    }
+    InUse { cells: n, jobs: m }
 }

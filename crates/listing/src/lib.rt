@@ -9,7 +9,7 @@ use book::kind;
 use machine::kind as event;
 
 // What stands at an offset: the kind, the fields of one byte in their order, the number, and the offset of what follows. What the kind
-// does not have is 0; the kind is 0, and all else, where nothing whole stands.
+// does not have is 0; the kind is 0, and all else, where nothing whole stands. No Option: C is told by the kind, and `no_fields` says all of it.
 #[derive(Clone, Copy)]
 pub struct Fields {
     pub kind: u8,

@@ -1,4 +1,4 @@
-// The answers to events.
+// The answers to events: bytes of the lent buffer, in C too, and so constants.
 pub const DONE: u8 = 0;
 
 pub const BLOCKED: u8 = 1;

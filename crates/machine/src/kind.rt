@@ -1,4 +1,4 @@
-// The kinds of events.
+// The kinds of events: bytes of the list, and so constants.
 pub const STEP: u8 = 80;
 
 pub const WRITE: u8 = 81;

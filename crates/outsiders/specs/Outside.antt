@@ -27,16 +27,16 @@ unfoldable pub such_value : ℕ → ℕ → ℕ → ℕ → Bool
 such_value cells blocks k n = both (leb k max_value_kind) (value_named cells blocks (value_of k n))
 
 -- each kind of event, by an outsider of label q, where C is c
-unfoldable pub such_write : Label → ℕ → ℕ → Label → ℕ → ℕ → ℕ → Bool
+abbrev pub such_write : Label → ℕ → ℕ → Label → ℕ → ℕ → ℕ → Bool
 such_write c blocks cells q k v n = both (reaches c q) (both (ltb k cells) (such_value cells blocks v n))
 
-unfoldable pub such_relabel : Label → ℕ → Label → ℕ → Label → Bool
+abbrev pub such_relabel : Label → ℕ → Label → ℕ → Label → Bool
 such_relabel c cells q k o = both (reaches c q) (both (ltb k cells) (is_label o))
 
-unfoldable pub such_new : Label → (ℕ → Shape) → ℕ → ℕ → Label → ℕ → ℕ → ℕ → Bool
+abbrev pub such_new : Label → (ℕ → Shape) → ℕ → ℕ → Label → ℕ → ℕ → ℕ → Bool
 such_new c shape blocks cells q i v n = both (reaches c q) (both (low_cell_shape c (shape i)) (such_value cells blocks v n))
 
-unfoldable pub such_number : Label → ℕ → Label → ℕ → Bool
+abbrev pub such_number : Label → ℕ → Label → ℕ → Bool
 such_number c count q k = both (reaches c q) (ltb k count)
 
 -- of a book of this C, these shapes and so many blocks, in a run of so many cells

@@ -66,6 +66,7 @@ fn fill(
 {
     let mut n = Counts::none();
     let mut o: usize = 0;
+    // Not by the reader: `skip_steps` passes over a block's steps at once, and a reader would have to be told where to go on.
     while o < s.len() {
         let k = s[o];
         let g = records::group_of(k);

@@ -7,7 +7,5 @@ pub fn copy_in(dst: &mut [u8], at: usize, src: &[u8])
     requires { at + length src.now ≤ length dst.old }
     ensures { dst.new ≡ put_at dst.old at src.now }
 {
-    for j in 0..src.len() {
-        dst[at + j] = src[j];
-    }
+    dst[at..at + src.len()].copy_from_slice(src);
 }

@@ -9,37 +9,27 @@ use book::{group, kind};
 pub fn byte(s: &[u8], i: usize) -> u8
     ensures { result ≡ byte_at s.now i }
 {
-    if i < s.len() { s[i] } else { 0 }
-}
-
-fn wide(b: u8) -> u32
-    ensures { (result ≡ b) × (result ≤ 255) }
-{
-    b as u32
+    s.get(i).copied().unwrap_or(0)
 }
 
 // An offset of an outline's tables.
 pub fn offset_of(x: u16) -> usize
     ensures { result ≡ x }
 {
-    x as usize
+    usize::from(x)
 }
 
-fn joined(a: u8, b: u8, c: u8, d: u8) -> u32
-    ensures { result ≡ a + 256 * b + 65536 * c + 16777216 * d }
-{
-    wide(a) + 256 * wide(b) + 65536 * wide(c) + 16777216 * wide(d)
-}
-
-// A number of 4 bytes, little-endian. Inside the book one test serves all four.
+// A number of 4 bytes, little-endian. Inside the book one test serves all four; `s.get(o..o + 4)` compares its ends too, and took 108
+// instructions for 103 at each event of the bench's run `writes`.
+#[tactic(auto, unfolding(book::specs::Records::number_at))]
 pub fn number(s: &[u8], o: usize) -> u32
     requires { o ≤ length s.now + 4 }
     ensures { result ≡ number_at s.now o }
 {
     if o + 4 <= s.len() {
-        return joined(s[o], s[o + 1], s[o + 2], s[o + 3]);
+        return u32::from_le_bytes([s[o], s[o + 1], s[o + 2], s[o + 3]]);
     }
-    joined(byte(s, o), byte(s, o + 1), byte(s, o + 2), byte(s, o + 3))
+    u32::from_le_bytes([byte(s, o), byte(s, o + 1), byte(s, o + 2), byte(s, o + 3)])
 }
 
 // The bytes of a step of a kind. Put is asked for first: the longest books are full of it.

@@ -8,4 +8,5 @@ mod walk;
 
 pub use copy::copy_in;
 pub use fields::{byte, group_of, number, offset_of, span_of};
+pub use reader::Reader;
 pub use walk::{next_record, skip_steps};

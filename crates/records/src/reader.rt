@@ -1,9 +1,9 @@
-// The reader of a book: "A book is read record by record from its first byte." It holds the lent book and an offset. The work is
-// in `record_end`, on slice and offset; the functions over the reader are thin, and proved by hand. Every loop over the records
-// goes through them by `walk::next_record`, whose parameters are plain.
+// The reader of a book: "A book is read record by record from its first byte." It holds the lent book and an offset, and gives the records one by one; the work
+// is in `record_end`, on slice and offset.
 ghost use Rattle.std.specs.Prelude.{◌≡◌, ◌<◌, length};
 ghost use Rattle.book.specs.Records.{next};
-ghost use Rattle.records.specs.Readers.{reader_at};
+ghost use Rattle.records.specs.Readers.{reader_at, records_left, ReadsOn};
+ghost use Rattle.std.specs.Iterator.{item_count};
 
 use crate::fields;
 
@@ -15,7 +15,7 @@ pub struct Reader<'a> {
 }
 
 // The offset past the record at an offset.
-fn record_end(s: &[u8], o: usize) -> usize
+pub fn record_end(s: &[u8], o: usize) -> usize
     requires { o < length s.now }
     ensures { result ≡ next s.now o }
 {
@@ -41,13 +41,23 @@ impl<'a> Reader<'a> {
             at: to,
         }
     }
+}
 
-    // Past the record at hand.
-    pub fn next(self) -> Reader<'a>
-        requires { self.at < length self.book.now }
-        ensures { result ≡ reader_at self.entry.book (next self.entry.book.now self.entry.at) }
-    {
-        let end = record_end(self.book, self.at);
-        self.moved(end)
+// The records from the offset on, each by its own. One that refusal 2 holds of is the last.
+impl<'a> Iterator for Reader<'a> {
+    type Item = usize;
+
+    ghost next_gives = { ReadsOn };
+
+    ghost remaining = { item_count records_left };
+
+    fn next(&mut self) -> Option<usize> {
+        let o = self.at;
+        if self.book.len() <= o {
+            return None;
+        }
+        let end = record_end(self.book, o);
+        self.at = if end == o { self.book.len() } else { end };
+        Some(o)
     }
 }

@@ -1,7 +1,6 @@
 -- A ring of places, and a scan of it.
 --     by_order                                two numbers, by their order
 --     first_on, first_wraps, first_inside     where a scan begins
---     begins                                  the same, as the code has it
 --     far, far_on, .., far_next               how far a place is from another
 --     scan_hits, scan_misses                  one place of a scan
 --     all_ahead, .., misses_behind            the same where the code scans the ring in two straight runs
@@ -42,15 +41,6 @@ first_wraps i m h = simp (le-ltb i m h)
 pub first_inside : (i m : ℕ) → 0 < m → first_place i m < m
 first_inside i m h =
     by_order i m (λ l. let e = first_on i m l in omega arith) (λ l. let e = first_wraps i m l in omega arith)
-
--- as the code has it
-pub from_is : (i m : ℕ) → i < m → i ≡ first_place i m
-from_is i m h = sym (first_on i m h)
-
-pub none_is : (i m : ℕ) → m ≤ i → 0 ≡ first_place i m
-none_is i m h = sym (first_wraps i m h)
-
-pub ruleset begins = (from_is, none_is)
 
 -- ---- distances
 -- how far place t is from place i in a ring of n

@@ -1,7 +1,7 @@
 -- Laws of a round, for the code: what a callee gave stands as a variable with its equation.
---     turn_stages      the refusal of the stages before, or of the number of turns
+--     turns_over, turns_few      the refusal of the number of turns
 --     lends            the parts of the outline that the loop is lent
---     rounds           the whole
+--     round_unread, .., round_passed      the whole
 -- Assumes nothing.
 use mathlib.Core.Path.{◌≡◌, refl, sym, ap, ◌∙◌}
 use mathlib.Core.Bool.{Bool, true, false}
@@ -14,35 +14,32 @@ use Rattle.labels.proofs.Impossible.{impossible}
 use Rattle.labels.specs.declared.Label.{Label}
 use Rattle.labels.specs.Labels.{label}
 use Rattle.book.specs.declared.Outline.{Outline}
-use Rattle.book.specs.declared.Reading.{Reading}
-use Rattle.book.specs.declared.Refusal.{Refusal}
-use Rattle.book.specs.declared.Refusal.TheVariants.{Passed, Refused}
+use Rattle.std.specs.Prelude.{Ok, Err}
+use Rattle.std.specs.Result.{result_and}
+use Rattle.book.specs.declared.Refused as D
+use Rattle.book.specs.declared.Ground.TheVariants.{ManyTurns}
+use Rattle.book.specs.Outcome.{Refusal, Passed, Refused, Given, ground_number, outcome}
 use Rattle.book.specs.Book.{parse}
 use Rattle.book.specs.Refusals.{unreadable}
-use Rattle.book.specs.Outline.{reading}
+use Rattle.book.specs.Outline.{read_by, reading}
 use Rattle.machine.specs.Launch.{Launch}
 use Rattle.machine.specs.Events.{first_bound, launched_at, launch_label}
-use Rattle.interpreter.specs.Run.{or_next, unlaunched, refusal_by}
+use Rattle.interpreter.specs.Run.{or_next, memory_refusal, unlaunched, refusal_by}
 use Rattle.running.proofs.Drawing.{outline_cells, outline_starts, outline_drawn, read_is, outline_is, bound_is, label_is}
-use Rattle.running.proofs.Refusing.{Passes, passes}
-use Rattle.scheduler.specs.Rounds.{overlong, round_refusal, unroundable, Round, rounded_of, rounded}
+use Rattle.running.proofs.Refusing.{Passes, passes, and_is}
+use Rattle.scheduler.specs.declared.TurnsUsed.{TurnsUsed}
+use Rattle.scheduler.specs.Rounds.{overlong, round_refusal, unroundable, Round, round_by, rounded_of, rounded}
 use Rattle.scheduler.specs.Scheduled.{Schedulable}
 use Rattle.rounds.specs.Roundable.{Roundable}
 
-module _ (earlier : Refusal) (turns : ℕ) where
-  pub turns_refused : (n o : ℕ) → earlier ≡ Refused n o → Refused n o ≡ or_next earlier (overlong turns)
-  unfolding or_next
-  turns_refused n o e = simp e
+module _ (turns : ℕ) where
+  pub turns_over : 4096 < turns → (e : D.Refused) → e ≡ record { why = ManyTurns; place = 0 } → Refused (ground_number e.why) e.place ≡ overlong turns
+  unfolding overlong
+  turns_over h e q = rw q (simp (lt-ltb _ _ h))
 
-  pub turns_over : earlier ≡ Passed → 4096 < turns → Refused 15 0 ≡ or_next earlier (overlong turns)
-  unfolding or_next overlong
-  turns_over e h = simp (e, lt-ltb _ _ h)
-
-  pub turns_few : earlier ≡ Passed → turns ≤ 4096 → Passed ≡ or_next earlier (overlong turns)
-  unfolding or_next overlong
-  turns_few e h = simp (e, le-ltb _ _ h)
-
-pub ruleset turn_stages = (turns_refused, turns_over, turns_few)
+  pub turns_few : turns ≤ 4096 → Passed ≡ overlong turns
+  unfolding overlong
+  turns_few h = simp (le-ltb _ _ h)
 
 -- both stages passed
 pub both_passed : (x y : Refusal) → or_next x y ≡ Passed → (x ≡ Passed) × (y ≡ Passed)
@@ -91,50 +88,62 @@ allowed book launch cells jobs room turns e =
     last_passed : (x y z : Refusal) → or_next x (or_next Passed (or_next y z)) ≡ Passed → z ≡ Passed
     last_passed x y z e = (both_passed y z (both_passed Passed (or_next y z) (both_passed x (or_next Passed (or_next y z)) e).1).1).1
 
--- r is what reading gave
-module _ (b : List ℕ) (launch : Launch) (cells jobs before : List ℕ) (turns : ℕ) (r : Reading) (er : r ≡ reading b) where
-  abbrev bound : Label
-  bound = label (get_or r.outline.bounds 0 0)
+after_read : (u v w : Refusal) → u ≡ Passed → or_next v w ≡ or_next (or_next u (or_next Passed v)) w
+unfolding or_next
+after_read u v w p = simp p
 
-  -- the bound matters only where the book passed
-  by_book : (x : Refusal) (k : Label) → (x ≡ Passed → bound ≡ k)
-      → round_refusal x (unlaunched bound launch) (length cells) (length jobs) (length before) turns
-      ≡ round_refusal x (unlaunched k launch) (length cells) (length jobs) (length before) turns
+module _ (b : List ℕ) (launch : Launch) (cells jobs before : List ℕ) (turns : ℕ) where
+  out : (r : Given TurnsUsed) (e : D.Refused) → r ≡ Err e
+      → Refused (ground_number e.why) e.place ≡ unroundable b launch (length cells) (length jobs) (length before) turns
+      → round_by r cells jobs before ≡ rounded b launch cells jobs before turns
+  unfolding rounded_of
+  out r e er h = ap (λ r. round_by r cells jobs before) er ∙ simp (← h)
+
+  -- r is what the round gives
+  pub round_unread : (r : Given TurnsUsed) (e : D.Refused) → r ≡ Err e → read_by (Err e) ≡ reading b
+      → round_by r cells jobs before ≡ rounded b launch cells jobs before turns
   unfolding round_refusal refusal_by or_next
-  by_book (Refused n o) k p = refl
-  by_book Passed k p = rw (p refl) refl
+  round_unread r e er h =
+      let k : Refused (ground_number e.why) e.place ≡ unreadable b = read_is b (read_by (Err e)) h in
+      out r e er (simp (← k))
 
-  -- u is the launch label's refusal, v that of the stages before the turns', f the whole
-  module _ (u : Refusal) (eu : u ≡ unlaunched bound launch) (v : Refusal)
-      (ev : v ≡ refusal_by r.refusal Passed u turns (length cells) (length jobs) (length before)) (f : Refusal) (ef : f ≡ or_next v (overlong turns)) where
-    refusal_is : f ≡ unroundable b launch (length cells) (length jobs) (length before) turns
-    unfolding round_refusal
-    refusal_is = ef ∙ rw (ev, read_is b r er, eu) (by_book (unreadable b) (first_bound (parse b)) (bound_is b r er))
+  -- t is the outline, x the memory's refusal, y that of the launch label, z that of the turns; v is the first of the first two, w that of all
+  module _ (t : Outline) (et : read_by (Ok t) ≡ reading b)
+      (x : Given (Unit {0})) (ex : outcome x ≡ memory_refusal turns (length cells) (length jobs) (length before))
+      (y : Given (Unit {0})) (ey : outcome y ≡ unlaunched (label (get_or t.bounds 0 0)) launch)
+      (z : Given (Unit {0})) (ez : outcome z ≡ overlong turns)
+      (v : Given (Unit {0})) (ev : v ≡ result_and x y) (w : Given (Unit {0})) (ew : w ≡ result_and v z) where
+    readable : unreadable b ≡ Passed
+    readable = sym (read_is b (read_by (Ok t)) et)
 
-    pub round_refused : (n o : ℕ) → f ≡ Refused n o
-        → ◌≡◌ {A = Round} (record { run = record { refusal = Refused n o; cell_count = 0; job_count = 0; cells = cells; jobs = jobs; answered = before }; turns = 0 })
-        (rounded b launch cells jobs before turns)
-    unfolding rounded_of
-    round_refused n o e = simp (← refusal_is, e)
+    whole : outcome w ≡ unroundable b launch (length cells) (length jobs) (length before) turns
+    unfolding round_refusal refusal_by
+    whole =
+        let k : label (get_or t.bounds 0 0) ≡ first_bound (parse b) = bound_is b (read_by (Ok t)) et readable in
+        ap outcome ew ∙ and_is v z ∙ rw (ev, and_is x y, ex, ey, ez, k) (after_read (unreadable b) _ _ readable)
 
-    pub round_roundable : f ≡ Passed → Roundable b r.outline cells jobs before turns
-    round_roundable e =
-        let p = allowed b launch (length cells) (length jobs) (length before) turns (sym refusal_is ∙ e) in
-        record {
-          readable = p.0.read_is;
-          outlined = outline_is b r er p.0.read_is;
-          cells_sized = p.0.cells_are;
-          jobs_sized = p.0.jobs_are;
-          room = p.0.fits;
-          few = p.2;
-        }
+    pub round_unlent : (r : Given TurnsUsed) (e : D.Refused) → r ≡ Err e → w ≡ Err e → round_by r cells jobs before ≡ rounded b launch cells jobs before turns
+    round_unlent r e er h = out r e er (ap outcome (sym h) ∙ whole)
 
-    -- l is the label of job 0
-    pub round_passed : (l : Label) → l ≡ launched_at r.outline.c bound launch → (x : Round) → f ≡ Passed
-        → x ≡ rounded_of Passed b l cells jobs before turns → x ≡ rounded b launch cells jobs before turns
-    round_passed l el x e ex =
-        let p = allowed b launch (length cells) (length jobs) (length before) turns (sym refusal_is ∙ e) in
-        ex ∙ ap (λ l. rounded_of Passed b l cells jobs before turns) (label_is b r er p.0.read_is launch l el)
-        ∙ ap (λ f. rounded_of f b (launch_label (parse b) launch) cells jobs before turns) (sym e ∙ refusal_is)
+    module _ (u : Unit {0}) (h : w ≡ Ok u) where
+      none : Passed ≡ unroundable b launch (length cells) (length jobs) (length before) turns
+      none = ap outcome (sym h) ∙ whole
 
-pub ruleset rounds = (round_refused, round_passed)
+      pub round_roundable : Roundable b t cells jobs before turns
+      round_roundable =
+          let p = allowed b launch (length cells) (length jobs) (length before) turns (sym none) in
+          record {
+            readable = p.0.read_is;
+            outlined = outline_is b (read_by (Ok t)) et p.0.read_is;
+            cells_sized = p.0.cells_are;
+            jobs_sized = p.0.jobs_are;
+            room = p.0.fits;
+            few = p.2;
+          }
+
+      -- l is the label of job 0
+      pub round_passed : (l : Label) → l ≡ launched_at t.c (label (get_or t.bounds 0 0)) launch → (x : Round)
+          → x ≡ rounded_of Passed b l cells jobs before turns → x ≡ rounded b launch cells jobs before turns
+      round_passed l el x ex =
+          ex ∙ ap (λ l. rounded_of Passed b l cells jobs before turns) (label_is b (read_by (Ok t)) et readable launch l el)
+          ∙ ap (λ f. rounded_of f b (launch_label (parse b) launch) cells jobs before turns) none

@@ -9,8 +9,7 @@ use lib.Dec.{eqb}
 use lib.ListN.{length}
 use borrow.Author.Tests.{eq-eqb, ne_eqb, lt-ltb, le-ltb}
 use Rattle.labels.specs.Labels.{lower}
-use Rattle.book.specs.declared.Refusal.{Refusal}
-use Rattle.book.specs.declared.Refusal.TheVariants.{Passed, Refused}
+use Rattle.book.specs.Outcome.{Refusal, Passed, Refused}
 use Rattle.book.specs.Control.{both, either, those, while, sweep, on_some}
 use Rattle.book.specs.Kinds.{span, limits, group}
 use Rattle.book.specs.Spans.{cut_by, offsets_in, offsets_by}

@@ -12,7 +12,7 @@ use lib.ListN.{length, drop}
 use borrow.Author.Tests.{le-ltb}
 use Rattle.labels.proofs.Impossible.{impossible}
 use Rattle.std.specs.Prelude.{None}
-use Rattle.book.specs.declared.Refusal.TheVariants.{Passed}
+use Rattle.book.specs.Outcome.{Passed}
 use Rattle.book.specs.Control.{sweep, first}
 use Rattle.book.specs.Spans.{byte_at, Bytes}
 use Rattle.book.specs.Book.{Book}

@@ -4,7 +4,7 @@
 --     Lendable          these are bytes, two for each turn
 -- proofs/RoundIsRun.antt proves them. Assumes nothing.
 use Rattle.std.specs.Prelude.{ℕ, ◌*◌, ◌≤◌, ◌≡◌, List, [], ◌∷◌, length}
-use Rattle.book.specs.declared.Refusal.TheVariants.{Passed}
+use Rattle.book.specs.Outcome.{Passed}
 use Rattle.book.specs.Spans.{Bytes}
 use Rattle.book.specs.Book.{parse}
 use Rattle.machine.specs.Launch.{Launch}

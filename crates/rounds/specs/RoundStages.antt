@@ -5,7 +5,7 @@
 -- proofs/RoundStages.antt proves them. Assumes nothing.
 use Rattle.std.specs.Prelude.{ℕ, ◌<◌, ◌≤◌, ◌≡◌, List, [], ◌∷◌, map, length, take, replicate}
 use Rattle.labels.specs.Labels.{label}
-use Rattle.book.specs.declared.Refusal.TheVariants.{Passed, Refused}
+use Rattle.book.specs.Outcome.{Passed, Refused}
 use Rattle.book.specs.Book.{parse}
 use Rattle.book.specs.Refusals.{unreadable}
 use Rattle.book.specs.Samples.{book_a, last_write}

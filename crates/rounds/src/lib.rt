@@ -1,36 +1,26 @@
 // The round of a book: refusals, then the turns, then the lent tables.
 #![tactic(auto)]
 
-ghost use Rattle.std.specs.Prelude.{◌≡◌, ◌≤◌};
-ghost use Rattle.book.specs.declared.Refusal.TheVariants.{Passed};
-ghost use Rattle.interpreter.specs.Run.{or_next};
+ghost use Rattle.std.specs.Prelude.{◌≡◌, ◌≤◌, Ok, IfOk};
+ghost use Rattle.book.specs.Outcome.{Passed, outcome};
 ghost use Rattle.scheduler.specs.Rounds.{overlong, round_by, rounded_of, rounded};
 ghost use Rattle.rounds.specs.Roundable.{Roundable};
 
-use book::{Outline, Refusal};
+use book::{Ground, Outline, Refused};
 use labels::Label;
-use scheduler::RoundResult;
+use scheduler::TurnsUsed;
 
 // How many turns a round may have.
 const MOST_TURNS: usize = 4096;
 
-// The refusal of the stages before, or else of the number of turns.
-fn refuse_turns(earlier: Refusal, turns: usize) -> Refusal
-    ensures { result ≡ or_next earlier (overlong turns) }
+// Refuses a number of turns.
+fn refuse_turns(turns: usize) -> Result<(), Refused>
+    ensures { outcome result ≡ overlong turns }
 {
-    if let Refusal::Refused { number, place } = earlier {
-        return Refusal::Refused {
-            number: number,
-            place: place,
-        };
-    }
     if MOST_TURNS < turns {
-        return Refusal::Refused {
-            number: 15,
-            place: 0,
-        };
+        return Err(Ground::ManyTurns.at(0));
     }
-    Refusal::Passed
+    Ok(())
 }
 
 // Plays the turns of what no refusal holds of, job 0 at the launch label.
@@ -42,9 +32,9 @@ fn finish(
     jobs: &mut [u8],
     answers: &mut [u8],
     turns: usize,
-) -> RoundResult
+) -> TurnsUsed
     requires { Roundable book.now t cells.old jobs.old answers.old turns }
-    ensures answers_after { round_by result cells.new jobs.new answers.new
+    ensures answers_after { round_by (Ok result) cells.new jobs.new answers.new
         ≡ rounded_of Passed book.now launch cells.old jobs.old answers.old turns }
     ensures cells_bound { (result.cells ≤ 64) × (result.jobs ≤ 64) × (result.turns ≤ 4096) }
 {
@@ -76,43 +66,19 @@ pub fn round(
     jobs: &mut [u8],
     answers: &mut [u8],
     turns: usize,
-) -> RoundResult
+) -> Result<TurnsUsed, Refused>
     ensures answers_after { round_by result cells.new jobs.new answers.new
         ≡ rounded book.now launch cells.old jobs.old answers.old turns }
-    ensures cells_bound { (result.cells ≤ 64) × (result.jobs ≤ 64) × (result.turns ≤ 4096) }
+    ensures cells_bound { IfOk result (λ u. (u.cells ≤ 64) × (u.jobs ≤ 64) × (u.turns ≤ 4096)) }
 {
-    let r = reading::read(book);
-    let read = r.refusal;
-    // A book that is refused has no outline: all of it is 0, and the book's refusal comes first.
-    let t = r.outline;
+    let t = reading::read(book)?;
     let bounds = t.bounds;
     let bound = Label(bounds[0]);
+    let held = running::refuse_memory(turns, cells.len(), jobs.len(), answers.len());
     let launched = running::refuse_launch(bound, launch);
-    // A round is lent no list.
-    let played = Refusal::Passed;
-    let earlier = running::refuse(
-        read,
-        played,
-        launched,
-        turns,
-        cells.len(),
-        jobs.len(),
-        answers.len(),
-    );
-    let refusal = refuse_turns(earlier, turns);
-    match refusal {
-        Refusal::Refused { number, place } => RoundResult {
-            refusal: Refusal::Refused {
-                number: number,
-                place: place,
-            },
-            cells: 0,
-            jobs: 0,
-            turns: 0,
-        },
-        Refusal::Passed => {
-            let label = running::launch_label(t.c, bound, launch);
-            finish(book, t, label, cells, jobs, answers, turns)
-        }
-    }
+    let few = refuse_turns(turns);
+    held.and(launched).and(few)?;
+    let label = running::launch_label(t.c, bound, launch);
+    let used = finish(book, t, label, cells, jobs, answers, turns);
+    Ok(used)
 }

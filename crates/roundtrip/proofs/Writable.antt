@@ -14,8 +14,7 @@ use borrow.Author.Tests.{ltb-false, le-ltb, eqb-true, not-false}
 use Rattle.labels.proofs.Impossible.{impossible}
 use Rattle.book.specs.Missing.{Fault}
 use Rattle.std.specs.Prelude.{None, Some}
-use Rattle.book.specs.declared.Refusal.{Refusal}
-use Rattle.book.specs.declared.Refusal.TheVariants.{Passed, Refused}
+use Rattle.book.specs.Outcome.{Refusal, Passed, Refused}
 use Rattle.book.specs.Control.{when◌then◌else◌}
 use Rattle.book.specs.Refusals.{order_fault, count_fault, range_fault, name_fault, or_refuse, unreadable}
 use Rattle.rows.specs.Rows.{BookTables, rows, bytes_of, total}

@@ -12,7 +12,7 @@ use lib.Seq.{take_at, drop_at}
 use borrow.Author.Tests.{eqb-true, eq-eqb, le-ltb}
 use Rattle.labels.specs.Labels.{label}
 use Rattle.std.specs.Prelude.{None}
-use Rattle.book.specs.declared.Refusal.TheVariants.{Passed}
+use Rattle.book.specs.Outcome.{Passed}
 use Rattle.book.specs.Spans.{Bytes}
 use Rattle.book.specs.Records.{byte_at, next, cut, records, records_from, in_group}
 use Rattle.book.specs.Book.{Block, group_of, shapes_of, cells_of, blocks_of, steps_from, shape_at, declared_at, block_at, step_at, parse}

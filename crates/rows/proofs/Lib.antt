@@ -1,5 +1,4 @@
 pub mod ByKind
-pub mod Told
 pub mod Packs
 pub mod Placed
 pub mod Local

@@ -2,7 +2,7 @@
 --     Known, known, known_kind     what is known of a row whose kind is one of its table's
 --     Sized, known_sized           a row that is as long as its kind says; such a row is
 --     none_bad, rows_sized         what it says that no row is bad; of tables that have no unknown row
---     all_join, all_front, ..      what holds of two lists, and of the parts of one
+--     all_front, all_behind        what holds of the parts of a list
 --     of_rows                      what holds of the rows of a table says it of the table
 --     record_on, records_none      the records from a row's place on
 --     packed_whole, known_whole    refusal 2 does not hold of them
@@ -25,7 +25,7 @@ use Rattle.book.specs.Spans.{next_by, cut_by, offsets_by}
 use Rattle.book.specs.Refusals.{cut_fault}
 use Rattle.book.specs.Asked.{Whole}
 use Rattle.book.proofs.Tests.{clash}
-use Rattle.book.proofs.Every.{All, all_each, all_both, mapped}
+use Rattle.book.proofs.Every.{All, all_append, all_both, all_said}
 use Rattle.book.proofs.Groups.{group_span}
 use Rattle.book.proofs.Spans.{uncut, offsets_end, offsets_more}
 use Rattle.book.proofs.Sweep.{somewhere}
@@ -104,11 +104,7 @@ step_formed r =
     let l = step_fields_lem (eqb r.kind 64) r.x r.y r.z (number_bytes r.number) in
     known_sized 5 r.kind (step_fields r) (omega arith) (λ e. let h = step_span r.kind e in omega arith)
 
--- of two lists, of their parts, and of a table's rows
-pub all_join : {A : Type 0} (P : A → Type 0) (l m : List A) → All P l → All P m → All P (l ++ m)
-all_join P [] m h k = k
-all_join P (x ∷ xs) m h k = (h.0, all_join P xs m h.1 k)
-
+-- of the parts of a list, and of a table's rows
 module _ {A : Type 0} (P : A → Type 0) where
   pub all_front : (l m : List A) → All P (l ++ m) → All P l
   all_front [] m h = tt
@@ -118,19 +114,16 @@ module _ {A : Type 0} (P : A → Type 0) where
   all_behind [] m h = h
   all_behind (x ∷ xs) m h = all_behind xs m h.1
 
-all_rows : {A : Type 0} (P : Row → Type 0) (row : A → Row) → ((a : A) → P (row a)) → (l : List A) → All P (map row l)
-all_rows P row f l = mapped (λ a. Unit {0}) P row (λ a u. f a) l (all_each (λ a. Unit {0}) (λ a. tt) l)
-
 pub of_rows : {A : Type 0} (P : Row → Type 0) (row : A → Row) (Q : A → Type 0) → ((a : A) → P (row a) → Q a) → (l : List A) → All P (map row l) → All Q l
 of_rows P row Q f [] h = tt
 of_rows P row Q f (a ∷ l) h = (f a h.0, of_rows P row Q f l h.1)
 
 blocks_formed : (bs : List BlockRow) (ss : List StepRow) → All Formed (block_rows bs ss)
 unfolding block_rows
-blocks_formed [] ss = all_rows Formed step_row step_formed ss
+blocks_formed [] ss = all_said Formed step_row step_formed ss
 blocks_formed (b ∷ bs) ss = (
   block_formed b,
-  all_join Formed (map step_row (take b.steps ss)) (block_rows bs (drop b.steps ss)) (all_rows Formed step_row step_formed (take b.steps ss))
+  all_append Formed (map step_row (take b.steps ss)) (block_rows bs (drop b.steps ss)) (all_said Formed step_row step_formed (take b.steps ss))
       (blocks_formed bs (drop b.steps ss)),
 )
 
@@ -138,8 +131,8 @@ rows_formed : (t : BookTables) → All Formed (rows t)
 unfolding rows
 rows_formed t = (
   c_formed t.c,
-  all_join Formed (map shape_row t.shapes) _ (all_rows Formed shape_row shape_formed t.shapes)
-      (all_join Formed (map cell_row t.cells) _ (all_rows Formed cell_row cell_formed t.cells) (blocks_formed t.blocks t.steps)),
+  all_append Formed (map shape_row t.shapes) _ (all_said Formed shape_row shape_formed t.shapes)
+      (all_append Formed (map cell_row t.cells) _ (all_said Formed cell_row cell_formed t.cells) (blocks_formed t.blocks t.steps)),
 )
 
 -- no row is bad

@@ -13,8 +13,7 @@ use borrow.Author.Tests.{ltb-false}
 use Rattle.labels.proofs.Impossible.{impossible}
 use Rattle.book.specs.Missing.{Fault}
 use Rattle.std.specs.Prelude.{None, Some}
-use Rattle.book.specs.declared.Refusal.{Refusal}
-use Rattle.book.specs.declared.Refusal.TheVariants.{Passed, Refused}
+use Rattle.book.specs.Outcome.{Refusal, Passed, Refused}
 use Rattle.book.specs.Control.{when◌then◌else◌}
 use Rattle.book.specs.Refusals.{order_fault, count_fault, range_fault, name_fault, or_refuse}
 use Rattle.book.proofs.Bounds.{PlacedIn, nowhere_placed, at_placed, order_placed, count_placed, range_placed, name_placed, stage, none_refused}

@@ -1,6 +1,7 @@
 -- The tables that a book is written from: 02, One.
 --     ShapeRow, .., StepRow           a row of each table
 --     BookTables, tables_in            C and the rows; those of lent bytes
+--     lent_tables                      those of what the code lends
 --     Row, row_of                      what stands for a row in the book
 --     c_row, shape_row, .., step_row     the rows of each table, and C
 --     block_rows, rows                 all of them, in group order
@@ -14,6 +15,7 @@ use Rattle.book.specs.Numbers.{c_kind, cell_kind, block_kind, put_kind, c_group,
 use Rattle.book.specs.Kinds.{span, group}
 use Rattle.book.specs.Spans.{packed}
 use Rattle.book.specs.Records.{byte_at, number_at, number_bytes}
+use Rattle.rows.specs.declared.Tables.{Tables}
 
 -- A row of each table: the fields of its record in their order, and of a block, "Each block row gives its step count."
 pub record ShapeRow : Type 0 where
@@ -101,6 +103,9 @@ step_rows_in t = rows_from (λ i. step_row_in t (i * step_row_length)) (length t
 abbrev pub tables_in : Label → List ℕ → List ℕ → List ℕ → List ℕ → BookTables
 tables_in c shapes cells blocks steps =
     record { c = c; shapes = shape_rows_in shapes; cells = cell_rows_in cells; blocks = block_rows_in blocks; steps = step_rows_in steps }
+
+abbrev pub lent_tables : Tables → BookTables
+lent_tables t = tables_in t.c t.shapes.now t.cells.now t.blocks.now t.steps.now
 
 -- What stands for a row in the book; whether its kind is one of its table's; whether a field that its kind does not use is not 0.
 pub record Row : Type 0 where

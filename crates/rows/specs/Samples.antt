@@ -4,7 +4,7 @@
 -- Assumes nothing.
 use Rattle.std.specs.Prelude.{ℕ, ◌≡◌, List, [], ◌∷◌, ◌++◌, replicate}
 use Rattle.labels.specs.Labels.{label}
-use Rattle.book.specs.declared.Refusal.TheVariants.{Passed, Refused}
+use Rattle.book.specs.Outcome.{Passed, Refused}
 use Rattle.book.specs.Book.{parse}
 use Rattle.book.specs.Samples.{book_a, last_write}
 use Rattle.rows.specs.Rows.{BookTables, tables_in}

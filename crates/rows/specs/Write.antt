@@ -2,13 +2,12 @@
 --     first_row, unknown_fault, spare_fault    the first row at fault, by the offset where its record would stand
 --     earlier                               the first record at fault of two stages that count as one
 --     unwritable                            the refusal of tables, if they have one
---     WriteResult, written                  what is answered, and what the buffer holds after the call
+--     WriteResult, write_by, written        what is answered, and what the buffer holds after the call; what a call gave
 -- Assumes nothing.
 use Rattle.std.specs.Prelude.{ℕ, ◌+◌, min, Bool, true, false, not, List, [], ◌∷◌, ◌++◌, eqb, ltb, length, drop}
 use Rattle.book.specs.Missing.{Fault}
 use Rattle.std.specs.Prelude.{None, Some}
-use Rattle.book.specs.declared.Refusal.{Refusal}
-use Rattle.book.specs.declared.Refusal.TheVariants.{Passed, Refused}
+use Rattle.book.specs.Outcome.{Refusal, Passed, Refused, Given, outcome, given_or}
 use Rattle.book.specs.Numbers.{max_book_bytes}
 use Rattle.book.specs.Control.{when◌then◌else◌}
 use Rattle.book.specs.Refusals.{order_fault, count_fault, range_fault, name_fault, or_refuse}
@@ -52,6 +51,10 @@ pub record WriteResult : Type 0 where
   pub refusal : Refusal
   pub length : ℕ
   pub out : List ℕ
+
+-- what a call gave, and what it left in the buffer
+abbrev pub write_by : Given ℕ → List ℕ → WriteResult
+write_by r out = record { refusal = outcome r; length = given_or 0 r; out = out }
 
 -- "fills a lent buffer with the records in group order, and reports their length." "Beyond the output the buffer is kept."
 unfoldable pub written_of : Refusal → List ℕ → List ℕ → WriteResult

@@ -1,4 +1,4 @@
-// The rows of what a record says, so that a book can be taken apart.
+// The rows of what a record says, so that a book can be taken apart, and the tables of rows that one is written from.
 #![tactic(auto)]
 
 ghost use Rattle.std.specs.Prelude.{◌≡◌, ◌∷◌};
@@ -6,6 +6,7 @@ ghost use Rattle.book.specs.Records.{number_bytes};
 ghost use Rattle.rows.specs.Parsed.{shape_row_of, cell_row_of, step_row_of, shape_row_bytes, cell_row_bytes, step_row_bytes};
 
 use book::{Declared, Shape, Step, Value, kind, value_kind};
+use labels::Label;
 
 // The bytes of a row of each table.
 pub const SHAPE_ROW: usize = 3;
@@ -16,63 +17,51 @@ pub const BLOCK_ROW: usize = 5;
 
 pub const STEP_ROW: usize = 8;
 
+// What a book is written from: C, and the lent rows of shapes, cells, blocks and steps.
+#[derive(Clone, Copy)]
+pub struct Tables<'a> {
+    pub c: Label,
+    pub shapes: &'a [u8],
+    pub cells: &'a [u8],
+    pub blocks: &'a [u8],
+    pub steps: &'a [u8],
+}
+
 // The row of a shape.
+#[tactic(auto, unfolding(crate::specs::Parsed::shape_row_of))]
 pub fn shape_row(x: Shape) -> [u8; SHAPE_ROW]
     ensures { result ≡ shape_row_bytes (shape_row_of x) }
 {
-    if x.kind == kind::CODE_SHAPE {
-        return [kind::CODE_SHAPE, x.bound.0, 0];
+    match x.kind {
+        kind::CODE_SHAPE => [kind::CODE_SHAPE, x.bound.0, 0],
+        kind::CELL_SHAPE => [kind::CELL_SHAPE, x.content, x.trust.0],
+        _ => [kind::PLAIN_SHAPE, 0, 0],
     }
-    if x.kind == kind::CELL_SHAPE {
-        return [kind::CELL_SHAPE, x.content, x.trust.0];
-    }
-    [kind::PLAIN_SHAPE, 0, 0]
-}
-
-fn cell_bytes(shape: u8, label: u8, kind: u8, n: u32) -> [u8; CELL_ROW]
-    ensures { result ≡ shape ∷ label ∷ kind ∷ number_bytes n }
-{
-    [
-        shape,
-        label,
-        kind,
-        (n % 256) as u8,
-        (n / 256 % 256) as u8,
-        (n / 65536 % 256) as u8,
-        (n / 16777216 % 256) as u8,
-    ]
 }
 
 // The row of a declared cell.
+#[tactic(auto, unfolding(crate::specs::Parsed::cell_row_of))]
 pub fn cell_row(d: Declared) -> [u8; CELL_ROW]
     ensures { result ≡ cell_row_bytes (cell_row_of d) }
 {
-    let value = d.value;
-    let shape = d.shape;
-    let label = d.label.0;
-    match value {
-        Value::Plain(n) => cell_bytes(shape, label, value_kind::PLAIN, n),
-        Value::CellName(n) => cell_bytes(shape, label, value_kind::CELL, n),
-        Value::CodeName(n) => cell_bytes(shape, label, value_kind::CODE, n),
-    }
+    let (kind, number) = match d.value {
+        Value::Plain(n) => (value_kind::PLAIN, n),
+        Value::CellName(n) => (value_kind::CELL, n),
+        Value::CodeName(n) => (value_kind::CODE, n),
+    };
+    let [n0, n1, n2, n3] = number.to_le_bytes();
+    [d.shape, d.label.0, kind, n0, n1, n2, n3]
 }
 
 fn step_bytes(kind: u8, x: u8, y: u8, z: u8, n: u32) -> [u8; STEP_ROW]
     ensures { result ≡ kind ∷ x ∷ y ∷ z ∷ number_bytes n }
 {
-    [
-        kind,
-        x,
-        y,
-        z,
-        (n % 256) as u8,
-        (n / 256 % 256) as u8,
-        (n / 65536 % 256) as u8,
-        (n / 16777216 % 256) as u8,
-    ]
+    let [n0, n1, n2, n3] = n.to_le_bytes();
+    [kind, x, y, z, n0, n1, n2, n3]
 }
 
 // The row of a step.
+#[tactic(auto, unfolding(crate::specs::Parsed::step_row_of))]
 pub fn step_row(p: Step) -> [u8; STEP_ROW]
     ensures { result ≡ step_row_bytes (step_row_of p) }
 {

@@ -9,9 +9,8 @@ use lib.ListN.{length, take, drop, get_or}
 use Rattle.labels.specs.declared.Label.{Label}
 use Rattle.labels.specs.Labels.{label}
 use Rattle.book.specs.declared.Outline.{Outline}
-use Rattle.book.specs.declared.Reading.{Reading}
-use Rattle.book.specs.declared.Refusal.{Refusal}
-use Rattle.book.specs.declared.Refusal.TheVariants.{Passed, Refused}
+use Rattle.book.specs.Outline.{Reading}
+use Rattle.book.specs.Outcome.{Refusal, Passed, Refused}
 use Rattle.book.specs.Book.{parse, blocks_of, block_at}
 use Rattle.book.specs.Refusals.{unreadable}
 use Rattle.book.specs.Outline.{outline_of, bound_at, reading_of, reading}

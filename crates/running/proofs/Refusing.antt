@@ -1,9 +1,8 @@
 -- Laws of the run, for the code: what a callee gave stands as a variable with its equation.
 --     memories, launches      the refusals of the memory and of a launch label
---     refusals                the stages'
 --     launch_labels           the label of job 0
 --     lends                   the parts of the outline that the loop is lent
---     runs                    the whole
+--     run_unread, run_unlisted, run_unlent, run_runnable, run_passed      the whole
 -- Assumes nothing.
 use mathlib.Core.Path.{◌≡◌, refl, sym, ap, ◌∙◌}
 use mathlib.Core.Bool.{Bool, true, false}
@@ -20,35 +19,40 @@ use Rattle.labels.proofs.Impossible.{impossible}
 use Rattle.labels.specs.declared.Label.{Label}
 use Rattle.labels.specs.Labels.{label, lower, is_above}
 use Rattle.book.specs.declared.Outline.{Outline}
-use Rattle.book.specs.declared.Reading.{Reading}
-use Rattle.book.specs.declared.Refusal.{Refusal}
-use Rattle.book.specs.declared.Refusal.TheVariants.{Passed, Refused}
+use Rattle.book.specs.declared.Refused as D
+use Rattle.book.specs.declared.Ground.TheVariants.{WrongTables, FewAnswers, HighLaunch}
+use Rattle.book.specs.Outcome.{Refusal, Passed, Refused, Given, ground_number, outcome}
 use Rattle.book.specs.Control.{both}
 use Rattle.book.specs.Book.{parse}
 use Rattle.book.specs.Refusals.{unreadable}
-use Rattle.book.specs.Outline.{reading}
+use Rattle.book.specs.Outline.{read_by, reading}
 use Rattle.machine.specs.Launch.{Launch}
-use Rattle.std.specs.Prelude.{None, Some}
+use Rattle.std.specs.Prelude.{None, Some, Ok, Err}
+use Rattle.std.specs.Result.{result_and}
 use Rattle.machine.specs.Events.{first_bound, launched_at, launch_label}
-use Rattle.events.specs.declared.Scanned.{Scanned}
-use Rattle.events.specs.Bytes.{events_in, unplayable, scan_of, scanned}
+use Rattle.events.specs.Bytes.{Scanned}
+use Rattle.events.specs.Bytes.{events_in, unplayable, scan_by, scan_of, scanned}
+use Rattle.interpreter.specs.declared.InUse.{InUse}
 use Rattle.interpreter.specs.Loop.{Ready}
 use Rattle.running.specs.Runnable.{Runnable}
 use Rattle.running.proofs.Drawing.{c_is, outline_cells, outline_starts, outline_drawn, read_is, outline_is, bound_is, label_is}
-use Rattle.interpreter.specs.Run.{Run, or_next, untabled, unanswered, memory_refusal, unlaunched, refusal_by, unrunnable, ran_of, ran}
+use Rattle.interpreter.specs.Run.{Run, or_next, untabled, unanswered, memory_refusal, unlaunched, refusal_by, unrunnable, run_by, ran_of, ran}
 
 module _ (count cells jobs room : ℕ) where
-  pub refuse_cells : (cells ≡ 576 → ⊥) → Refused 10 0 ≡ memory_refusal count cells jobs room
-  unfolding or_next untabled both
-  refuse_cells n = simp (ne_eqb _ _ n)
+  module _ (e : D.Refused) where
+    pub refuse_cells : (cells ≡ 576 → ⊥) → e ≡ record { why = WrongTables; place = 0 } → Refused (ground_number e.why) e.place ≡ memory_refusal count cells jobs room
+    unfolding or_next untabled both
+    refuse_cells n h = rw h (simp (ne_eqb _ _ n))
 
-  pub refuse_jobs : cells ≡ 576 → (jobs ≡ 3328 → ⊥) → Refused 10 0 ≡ memory_refusal count cells jobs room
-  unfolding or_next untabled both
-  refuse_jobs c n = simp (eq-eqb _ _ c, ne_eqb _ _ n)
+    pub refuse_jobs : cells ≡ 576 → (jobs ≡ 3328 → ⊥) → e ≡ record { why = WrongTables; place = 0 }
+        → Refused (ground_number e.why) e.place ≡ memory_refusal count cells jobs room
+    unfolding or_next untabled both
+    refuse_jobs c n h = rw h (simp (eq-eqb _ _ c, ne_eqb _ _ n))
 
-  pub refuse_room : cells ≡ 576 → jobs ≡ 3328 → room < count → Refused 11 0 ≡ memory_refusal count cells jobs room
-  unfolding or_next untabled both unanswered
-  refuse_room c j h = simp (eq-eqb _ _ c, eq-eqb _ _ j, lt-ltb _ _ h)
+    pub refuse_room : cells ≡ 576 → jobs ≡ 3328 → room < count → e ≡ record { why = FewAnswers; place = 0 }
+        → Refused (ground_number e.why) e.place ≡ memory_refusal count cells jobs room
+    unfolding or_next untabled both unanswered
+    refuse_room c j l h = rw h (simp (eq-eqb _ _ c, eq-eqb _ _ j, lt-ltb _ _ l))
 
   pub refuse_none : cells ≡ 576 → jobs ≡ 3328 → count ≤ room → Passed ≡ memory_refusal count cells jobs room
   unfolding or_next untabled both unanswered
@@ -63,9 +67,9 @@ module _ (bound : Label) (launch : Launch) where
   refuse_none_given e = simp e
 
   module _ (l : Label) (e : launch ≡ Some l) (f : Bool) (ef : f ≡ is_above l bound) where
-    pub refuse_above : f ≡ true → Refused 14 0 ≡ unlaunched bound launch
+    pub refuse_above : f ≡ true → (r : D.Refused) → r ≡ record { why = HighLaunch; place = 0 } → Refused (ground_number r.why) r.place ≡ unlaunched bound launch
     unfolding unlaunched
-    refuse_above t = simp (e, ← ef, t)
+    refuse_above t r h = rw h (simp (e, ← ef, t))
 
     pub refuse_not_above : f ≡ false → Passed ≡ unlaunched bound launch
     unfolding unlaunched
@@ -94,28 +98,6 @@ pub low_fits : (c bound : Label) → Fits w8 bound.0 → (f : Bool) → f ≡ is
 low_fits c bound w f ef t = let h = ltb-true c.0 bound.0 (sym ef ∙ t) in Fits-under w8 (c.0 + 1) 256 (omega (arith, w.fits)) tt
 
 pub ruleset launch_labels = (label_given, label_low, label_bound)
-
-module _ (read played launched : Refusal) (count cells jobs room : ℕ) where
-  pub refuse_read : (n o : ℕ) → read ≡ Refused n o → Refused n o ≡ refusal_by read played launched count cells jobs room
-  unfolding refusal_by or_next
-  refuse_read n o e = simp e
-
-  module _ (p : read ≡ Passed) where
-    pub refuse_played : (n o : ℕ) → played ≡ Refused n o → Refused n o ≡ refusal_by read played launched count cells jobs room
-    unfolding refusal_by or_next
-    refuse_played n o e = simp (p, e)
-
-    -- x is the memory's refusal
-    module _ (q : played ≡ Passed) (x : Refusal) (ex : x ≡ memory_refusal count cells jobs room) where
-      pub refuse_held : (n o : ℕ) → x ≡ Refused n o → Refused n o ≡ refusal_by read played launched count cells jobs room
-      unfolding refusal_by or_next
-      refuse_held n o e = simp (p, q, ← ex, e)
-
-      pub refuse_rest : x ≡ Passed → launched ≡ refusal_by read played launched count cells jobs room
-      unfolding refusal_by or_next
-      refuse_rest e = simp (p, q, ← ex, e)
-
-pub ruleset refusals = (refuse_read, refuse_played, refuse_held, refuse_rest)
 
 -- nothing is refused: each stage before the launch label's passed
 pub record Passes (read played : Refusal) (count cells jobs room : ℕ) : Type 0 where
@@ -162,65 +144,96 @@ module _ (b : List ℕ) (t : Outline) (list cells jobs before : List ℕ) (y : R
         lent = y.lent;
       }
 
--- r is what reading gave, s what the scan gave
-module _ (b : List ℕ) (launch : Launch) (list cells jobs before : List ℕ) (r : Reading) (er : r ≡ reading b) (s : Scanned) (es : s ≡ scanned list) where
-  abbrev bound : Label
-  bound = label (get_or r.outline.bounds 0 0)
+-- what a scan gave
+scan_is : (list : List ℕ) (r : Scanned) → r ≡ scanned list → r.refusal ≡ unplayable list
+unfolding scan_of
+scan_is list r e = ap (λ (s : Scanned). s.refusal) e ∙ go (unplayable list)
+  where
+    go : (x : Refusal) → (scan_of x (length (events_in list))).refusal ≡ x
+    go Passed = refl
+    go (Refused n o) = refl
 
-  scan_is : s.refusal ≡ unplayable list
-  unfolding scan_of
-  scan_is = ap (λ (s : Scanned). s.refusal) es ∙ go (unplayable list)
-    where
-      go : (x : Refusal) → (scan_of x (length (events_in list))).refusal ≡ x
-      go Passed = refl
-      go (Refused n o) = refl
+count_is : (list : List ℕ) (r : Scanned) → r ≡ scanned list → unplayable list ≡ Passed → r.count ≡ length (events_in list)
+unfolding scan_of
+count_is list r e p = ap (λ (s : Scanned). s.count) e ∙ simp p
 
-  count_is : unplayable list ≡ Passed → s.count ≡ length (events_in list)
-  unfolding scan_of
-  count_is e = ap (λ (s : Scanned). s.count) es ∙ simp e
+-- the first of two refusals
+pub and_is : {A B : Type 0} (x : Given A) (y : Given B) → outcome (result_and x y) ≡ or_next (outcome x) (outcome y)
+unfolding or_next
+and_is (Ok a) y = refl
+and_is (Err e) y = refl
 
-  -- the bound matters only where the book passed, the count only where the list did
-  by_both : (x y : Refusal) (k : Label) (n : ℕ) → (x ≡ Passed → bound ≡ k) → (y ≡ Passed → s.count ≡ n)
-      → refusal_by x y (unlaunched bound launch) s.count (length cells) (length jobs) (length before)
-      ≡ refusal_by x y (unlaunched k launch) n (length cells) (length jobs) (length before)
+pub ok_passes : {A : Type 0} (x : Given A) (a : A) → x ≡ Ok a → outcome x ≡ Passed
+ok_passes x a e = ap outcome e
+
+both_pass : (u v w : Refusal) → u ≡ Passed → v ≡ Passed → w ≡ or_next u (or_next v w)
+unfolding or_next
+both_pass u v w p q = simp (p, q)
+
+module _ (b : List ℕ) (launch : Launch) (list cells jobs before : List ℕ) where
+  out : (r : Given InUse) (e : D.Refused) → r ≡ Err e
+      → Refused (ground_number e.why) e.place ≡ unrunnable b launch list (length cells) (length jobs) (length before)
+      → run_by r cells jobs before ≡ ran b launch list cells jobs before
+  unfolding ran_of
+  out r e er h = ap (λ r. run_by r cells jobs before) er ∙ simp (← h)
+
+  -- r is what the run gives
+  pub run_unread : (r : Given InUse) (e : D.Refused) → r ≡ Err e → read_by (Err e) ≡ reading b → run_by r cells jobs before ≡ ran b launch list cells jobs before
   unfolding refusal_by or_next
-  by_both (Refused n o) y k m p q = refl
-  by_both Passed (Refused n o) k m p q = refl
-  by_both Passed Passed k m p q = rw (p refl, q refl) refl
+  run_unread r e er h =
+      let k : Refused (ground_number e.why) e.place ≡ unreadable b = read_is b (read_by (Err e)) h in
+      out r e er (simp (← k))
 
-  -- u is the launch label's refusal, f the whole
-  module _ (u : Refusal) (eu : u ≡ unlaunched bound launch)
-      (f : Refusal) (ef : f ≡ refusal_by r.refusal s.refusal u s.count (length cells) (length jobs) (length before)) where
-    refusal_is : f ≡ unrunnable b launch list (length cells) (length jobs) (length before)
-    refusal_is =
-        ef ∙ rw (read_is b r er, scan_is, eu) (by_both (unreadable b) (unplayable list) (first_bound (parse b)) (length (events_in list)) (bound_is b r er) count_is)
+  -- t is the outline
+  module _ (t : Outline) (et : read_by (Ok t) ≡ reading b) where
+    readable : unreadable b ≡ Passed
+    readable = sym (read_is b (read_by (Ok t)) et)
 
-    pub run_refused : (n o : ℕ) → f ≡ Refused n o
-        → ◌≡◌ {A = Run} (record { refusal = Refused n o; cell_count = 0; job_count = 0; cells = cells; jobs = jobs; answered = before })
-        (ran b launch list cells jobs before)
-    unfolding ran_of
-    run_refused n o e = simp (← refusal_is, e)
+    pub run_unlisted : (r : Given InUse) (e : D.Refused) → r ≡ Err e → scan_by (Err e) ≡ scanned list
+        → run_by r cells jobs before ≡ ran b launch list cells jobs before
+    unfolding refusal_by or_next
+    run_unlisted r e er h =
+        let k : Refused (ground_number e.why) e.place ≡ unplayable list = scan_is list (scan_by (Err e)) h in
+        out r e er (simp (readable, ← k))
 
-    passed : f ≡ Passed
-        → Passes (unreadable b) (unplayable list) (length (events_in list)) (length cells) (length jobs) (length before)
-    passed e = passes _ _ (unlaunched (first_bound (parse b)) launch) _ _ _ _ (sym e ∙ refusal_is)
+    -- n is the number of events, x the memory's refusal, y that of the launch label, z the first of both
+    module _ (n : ℕ) (en : scan_by (Ok n) ≡ scanned list)
+        (x : Given (Unit {0})) (ex : outcome x ≡ memory_refusal n (length cells) (length jobs) (length before))
+        (y : Given (Unit {0})) (ey : outcome y ≡ unlaunched (label (get_or t.bounds 0 0)) launch)
+        (z : Given (Unit {0})) (ez : z ≡ result_and x y) where
+      playable : unplayable list ≡ Passed
+      playable = sym (scan_is list (scan_by (Ok n)) en)
 
-    pub run_runnable : f ≡ Passed → Runnable b r.outline list cells jobs before
-    run_runnable e =
-        let p = passed e in
-        record {
-          readable = p.read_is;
-          outlined = outline_is b r er p.read_is;
-          lent = record { playable = p.played_is; room = p.fits; cells_sized = p.cells_are; jobs_sized = p.jobs_are };
-        }
+      whole : outcome z ≡ unrunnable b launch list (length cells) (length jobs) (length before)
+      unfolding refusal_by
+      whole =
+          let a : outcome z ≡ or_next (memory_refusal n (length cells) (length jobs) (length before)) (unlaunched (label (get_or t.bounds 0 0)) launch)
+          = ap outcome ez ∙ and_is x y ∙ rw (ex, ey) refl in
+          let m : n ≡ length (events_in list) = count_is list (scan_by (Ok n)) en playable in
+          let k : label (get_or t.bounds 0 0) ≡ first_bound (parse b) = bound_is b (read_by (Ok t)) et readable in
+          a ∙ rw (m, k) (both_pass _ _ _ readable playable)
 
-    -- l is the label of job 0
-    pub run_passed : (l : Label) → l ≡ launched_at r.outline.c bound launch → (x : Run) → f ≡ Passed
-        → x ≡ ran_of Passed b l list cells jobs before → x ≡ ran b launch list cells jobs before
-    run_passed l el x e ex =
-        ex ∙ ap (λ l. ran_of Passed b l list cells jobs before) (label_is b r er (passed e).read_is launch l el)
-        ∙ ap (λ f. ran_of f b (launch_label (parse b) launch) list cells jobs before) (sym e ∙ refusal_is)
+      pub run_unlent : (r : Given InUse) (e : D.Refused) → r ≡ Err e → z ≡ Err e → run_by r cells jobs before ≡ ran b launch list cells jobs before
+      run_unlent r e er h = out r e er (ap outcome (sym h) ∙ whole)
+
+      module _ (u : Unit {0}) (h : z ≡ Ok u) where
+        none : Passed ≡ unrunnable b launch list (length cells) (length jobs) (length before)
+        none = ap outcome (sym h) ∙ whole
+
+        pub run_runnable : Runnable b t list cells jobs before
+        run_runnable =
+            let p = passes _ _ (unlaunched (first_bound (parse b)) launch) _ _ _ _ none in
+            record {
+              readable = p.read_is;
+              outlined = outline_is b (read_by (Ok t)) et p.read_is;
+              lent = record { playable = p.played_is; room = p.fits; cells_sized = p.cells_are; jobs_sized = p.jobs_are };
+            }
+
+        -- l is the label of job 0
+        pub run_passed : (l : Label) → l ≡ launched_at t.c (label (get_or t.bounds 0 0)) launch → (x : Run)
+            → x ≡ ran_of Passed b l list cells jobs before → x ≡ ran b launch list cells jobs before
+        run_passed l el x ex =
+            ex ∙ ap (λ l. ran_of Passed b l list cells jobs before) (label_is b (read_by (Ok t)) et readable launch l el)
+            ∙ ap (λ f. ran_of f b (launch_label (parse b) launch) list cells jobs before) none
 
 pub ruleset lends = (lent_cells, lent_starts, lent_ready)
-
-pub ruleset runs = (run_refused, run_passed)

@@ -8,8 +8,7 @@
 use Rattle.std.specs.Prelude.{ℕ, ◌+◌, ◌≡◌, true, List, ◌++◌, length, drop}
 use Rattle.labels.specs.declared.Label.{Label}
 use Rattle.labels.specs.Labels.{label, lower, reaches, is_above}
-use Rattle.book.specs.declared.Refusal.{Refusal}
-use Rattle.book.specs.declared.Refusal.TheVariants.{Passed, Refused}
+use Rattle.book.specs.Outcome.{Refusal, Passed, Refused}
 use Rattle.book.specs.Book.{Book, parse}
 use Rattle.book.specs.Refusals.{unreadable}
 use Rattle.std.specs.Prelude.{None, Some}

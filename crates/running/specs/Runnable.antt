@@ -3,7 +3,7 @@
 -- Assumes nothing.
 use Rattle.std.specs.Prelude.{ℕ, ◌≡◌, List}
 use Rattle.book.specs.declared.Outline.{Outline}
-use Rattle.book.specs.declared.Refusal.TheVariants.{Passed}
+use Rattle.book.specs.Outcome.{Passed}
 use Rattle.book.specs.Refusals.{unreadable}
 use Rattle.book.specs.Outline.{outline_of}
 use Rattle.interpreter.specs.Loop.{Lent}

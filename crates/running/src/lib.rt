@@ -1,55 +1,43 @@
 // The run of a book: refusals, then the events, then the lent tables.
 #![tactic(auto)]
 
-ghost use Rattle.std.specs.Prelude.{◌≡◌, ◌≤◌};
-ghost use Rattle.book.specs.declared.Refusal.TheVariants.{Passed};
+ghost use Rattle.std.specs.Prelude.{◌≡◌, ◌≤◌, Ok, IfOk};
+ghost use Rattle.book.specs.Outcome.{Passed, outcome};
 ghost use Rattle.machine.specs.Events.{launched_at};
-ghost use Rattle.interpreter.specs.Run.{run_by, memory_refusal, unlaunched, refusal_by, ran_of, ran};
+ghost use Rattle.interpreter.specs.Run.{run_by, memory_refusal, unlaunched, ran_of, ran};
 ghost use Rattle.running.specs.Runnable.{Runnable};
 
 use acts::{StoredCell, StoredJob};
-use book::{Outline, Refusal};
-use interpreter::RunResult;
+use book::{Ground, Outline, Refused};
+use interpreter::InUse;
 use labels::Label;
 
-// The refusal of the lent memory: of the tables, then of the answer buffer.
-fn refuse_memory(count: usize, cells: usize, jobs: usize, room: usize) -> Refusal
-    ensures { result ≡ memory_refusal count cells jobs room }
+// Refuses lent memory: the tables, then the answer buffer.
+pub fn refuse_memory(count: usize, cells: usize, jobs: usize, room: usize) -> Result<(), Refused>
+    ensures { outcome result ≡ memory_refusal count cells jobs room }
 {
     if cells != StoredCell::TABLE_BYTES {
-        return Refusal::Refused {
-            number: 10,
-            place: 0,
-        };
+        return Err(Ground::WrongTables.at(0));
     }
     if jobs != StoredJob::TABLE_BYTES {
-        return Refusal::Refused {
-            number: 10,
-            place: 0,
-        };
+        return Err(Ground::WrongTables.at(0));
     }
     if room < count {
-        return Refusal::Refused {
-            number: 11,
-            place: 0,
-        };
+        return Err(Ground::FewAnswers.at(0));
     }
-    Refusal::Passed
+    Ok(())
 }
 
-// The refusal of a launch label that is given: above block 0's bound.
-pub fn refuse_launch(bound: Label, launch: Option<Label>) -> Refusal
-    ensures { result ≡ unlaunched bound launch }
+// Refuses a launch label that is given: above block 0's bound.
+pub fn refuse_launch(bound: Label, launch: Option<Label>) -> Result<(), Refused>
+    ensures { outcome result ≡ unlaunched bound launch }
 {
     if let Some(l) = launch {
         if l.is_above(bound) {
-            return Refusal::Refused {
-                number: 14,
-                place: 0,
-            };
+            return Err(Ground::HighLaunch.at(0));
         }
     }
-    Refusal::Passed
+    Ok(())
 }
 
 // The label of job 0: the one that is given, or the smaller of C plus 1 and block 0's bound.
@@ -67,40 +55,6 @@ pub fn launch_label(c: Label, bound: Label, launch: Option<Label>) -> Label
     bound
 }
 
-// The first refusal of the stages: of the book, of the event list, of the memory, of the launch label.
-pub fn refuse(
-    read: Refusal,
-    played: Refusal,
-    launched: Refusal,
-    count: usize,
-    cells: usize,
-    jobs: usize,
-    room: usize,
-) -> Refusal
-    ensures { result ≡ refusal_by read played launched count cells jobs room }
-{
-    if let Refusal::Refused { number, place } = read {
-        return Refusal::Refused {
-            number: number,
-            place: place,
-        };
-    }
-    if let Refusal::Refused { number, place } = played {
-        return Refusal::Refused {
-            number: number,
-            place: place,
-        };
-    }
-    let held = refuse_memory(count, cells, jobs, room);
-    if let Refusal::Refused { number, place } = held {
-        return Refusal::Refused {
-            number: number,
-            place: place,
-        };
-    }
-    launched
-}
-
 // Runs what refusals 1 to 6 and 9 to 11 do not hold of, job 0 at the launch label.
 fn finish(
     book: &[u8],
@@ -110,9 +64,9 @@ fn finish(
     cells: &mut [u8],
     jobs: &mut [u8],
     answers: &mut [u8],
-) -> RunResult
+) -> InUse
     requires { Runnable book.now t list.now cells.old jobs.old answers.old }
-    ensures answers_after { run_by result cells.new jobs.new answers.new
+    ensures answers_after { run_by (Ok result) cells.new jobs.new answers.new
         ≡ ran_of Passed book.now launch list.now cells.old jobs.old answers.old }
     ensures cells_bound { (result.cells ≤ 64) × (result.jobs ≤ 64) }
 {
@@ -145,41 +99,19 @@ pub fn run(
     cells: &mut [u8],
     jobs: &mut [u8],
     answers: &mut [u8],
-) -> RunResult
+) -> Result<InUse, Refused>
     ensures answers_after { run_by result cells.new jobs.new answers.new
         ≡ ran book.now launch list.now cells.old jobs.old answers.old }
-    ensures cells_bound { (result.cells ≤ 64) × (result.jobs ≤ 64) }
+    ensures cells_bound { IfOk result (λ u. (u.cells ≤ 64) × (u.jobs ≤ 64)) }
 {
-    let r = reading::read(book);
-    let s = events::scan(list);
-    let read = r.refusal;
-    let played = s.refusal;
-    // A book that is refused has no outline: all of it is 0, and the book's refusal comes first.
-    let t = r.outline;
+    let t = reading::read(book)?;
+    let count = events::scan(list)?;
     let bounds = t.bounds;
     let bound = Label(bounds[0]);
+    let held = refuse_memory(count, cells.len(), jobs.len(), answers.len());
     let launched = refuse_launch(bound, launch);
-    let refusal = refuse(
-        read,
-        played,
-        launched,
-        s.count,
-        cells.len(),
-        jobs.len(),
-        answers.len(),
-    );
-    match refusal {
-        Refusal::Refused { number, place } => RunResult {
-            refusal: Refusal::Refused {
-                number: number,
-                place: place,
-            },
-            cells: 0,
-            jobs: 0,
-        },
-        Refusal::Passed => {
-            let label = launch_label(t.c, bound, launch);
-            finish(book, t, label, list, cells, jobs, answers)
-        }
-    }
+    held.and(launched)?;
+    let label = launch_label(t.c, bound, launch);
+    let used = finish(book, t, label, list, cells, jobs, answers);
+    Ok(used)
 }

@@ -5,8 +5,7 @@
 -- Assumes nothing.
 use Rattle.std.specs.Prelude.{ℕ, List, map, ltb, length}
 use Rattle.labels.specs.declared.Label.{Label}
-use Rattle.book.specs.declared.Refusal.{Refusal}
-use Rattle.book.specs.declared.Refusal.TheVariants.{Passed, Refused}
+use Rattle.book.specs.Outcome.{Refusal, Passed, Refused, Given, outcome, given_or}
 use Rattle.book.specs.Control.{when◌then◌else◌}
 use Rattle.book.specs.Book.{parse}
 use Rattle.book.specs.Refusals.{unreadable}
@@ -16,7 +15,7 @@ use Rattle.machine.specs.Histories.{lists}
 use Rattle.machine.specs.Events.{table_size, first_bound, launch_label}
 use Rattle.interpreter.specs.Run.{or_next, unlaunched, refusal_by, Run, played}
 use Rattle.rotation.specs.Round.{round_of}
-use Rattle.scheduler.specs.declared.RoundResult.{RoundResult}
+use Rattle.scheduler.specs.declared.TurnsUsed.{TurnsUsed}
 
 -- "a number of turns up to 4,096"
 abbrev pub most_turns : ℕ
@@ -40,11 +39,12 @@ pub record Round : Type 0 where
   pub turns : ℕ
 
 -- what a call gave, and what it left in the cell table, the job table and the answer buffer
-abbrev pub round_by : RoundResult → List ℕ → List ℕ → List ℕ → Round
+abbrev pub round_by : Given TurnsUsed → List ℕ → List ℕ → List ℕ → Round
 round_by r cells jobs answered =
+    let u = given_or (record { cells = 0; jobs = 0; turns = 0 }) r in
     record {
-      run = record { refusal = r.refusal; cell_count = r.cells; job_count = r.jobs; cells = cells; jobs = jobs; answered = answered };
-      turns = r.turns;
+      run = record { refusal = outcome r; cell_count = u.cells; job_count = u.jobs; cells = cells; jobs = jobs; answered = answered };
+      turns = u.turns;
     }
 
 -- the jobs that a round of at most so many turns steps, job 0 at the label l; "job 0 is looked at first"

@@ -1,10 +1,10 @@
 // The turns of a round, one after the other, from the fresh state to the saved tables.
 #![tactic(auto)]
 
-ghost use Rattle.std.specs.Prelude.{◌≡◌, ◌≤◌, length};
+ghost use Rattle.std.specs.Prelude.{◌≡◌, ◌≤◌, length, Ok};
 ghost use Rattle.book.specs.Spans.{byte_at};
 ghost use Rattle.book.specs.Book.{step_at};
-ghost use Rattle.book.specs.declared.Refusal.TheVariants.{Passed};
+ghost use Rattle.book.specs.Outcome.{Passed};
 ghost use Rattle.book.specs.Stretch.{step_end};
 ghost use Rattle.acts.specs.Views.{stored_of, nearby, give_sort};
 ghost use Rattle.turns.specs.Turns.{target_in, Takes, Gives};
@@ -12,15 +12,14 @@ ghost use Rattle.scheduler.specs.Rounds.{round_by, rounded_of};
 ghost use Rattle.scheduler.specs.Scheduled.{Schedulable};
 
 use acts::{Act, Near, Stored, StoredJob};
-use book::{Refusal, kind, value_kind};
+use book::{kind, value_kind};
 use labels::Label;
 use machine::answer;
 use rotation::Pending;
 
-// What a round gives: its refusal, or the cells and jobs in use and the turns used. After a refusal these are 0.
+// The cells and jobs in use after a round, and the turns used.
 #[derive(Clone, Copy)]
-pub struct RoundResult {
-    pub refusal: Refusal,
+pub struct TurnsUsed {
     pub cells: usize,
     pub jobs: usize,
     pub turns: usize,
@@ -37,36 +36,26 @@ fn pend(book: &[u8], at: usize) -> Pending
 
 // The step at an offset, where it gives a register a value: put, name, code, add, read. `turns::give` is the run's: the compiler puts a function of this size in
 // its caller's place only where it has one.
-fn give(
-    s: &[u8],
-    o: usize,
-    l: Label,
-    h: Label,
-    registers: [Stored; 8],
-    near: Near,
-    u: Stored,
-) -> Act
-    requires { Gives (byte_at s.now o) × (o ≤ length s.now) × (stored_of u ≡ target_in (step_at s.now o) h registers) }
-    ensures { Takes give_sort (nearby near) (step_at s.now o) l h registers result }
+fn give(s: &[u8], o: usize, j: &StoredJob, near: Near, u: Stored) -> Act
+    requires { Gives (byte_at s.now o) × (o ≤ length s.now) × (stored_of u ≡ target_in (step_at s.now o) j.now.source j.now.registers) }
+    ensures { Takes give_sort (nearby near) (step_at s.now o) j.now.label j.now.source j.now.registers result }
 {
     let k = records::byte(s, o);
     let r = records::byte(s, o + 1);
     if k == kind::PUT {
-        let number = records::number(s, o + 2);
-        return turns::given(r, value_kind::PLAIN, number, h);
+        return turns::given(r, value_kind::PLAIN, records::number(s, o + 2), j.source);
     }
     let y = records::byte(s, o + 2);
     if k == kind::NAME {
-        return turns::given(r, value_kind::CELL, y as u32, h);
+        return turns::given(r, value_kind::CELL, y as u32, j.source);
     }
     if k == kind::CODE {
-        return turns::given(r, value_kind::CODE, y as u32, h);
+        return turns::given(r, value_kind::CODE, y as u32, j.source);
     }
     if k == kind::ADD {
-        let z = records::byte(s, o + 3);
-        return turns::add(l, h, registers, near, r, y, z);
+        return turns::add(j, near, r, y, records::byte(s, o + 3));
     }
-    turns::read(l, h, registers, near, u, r, y)
+    turns::read(j, near, u, r, y)
 }
 
 // Steps so many times the next job with a step left, from the fresh state, job 0 at the launch label, and saves the tables. Beside each job stands what the
@@ -81,12 +70,13 @@ pub fn schedule(
     jobs: &mut [u8],
     answers: &mut [u8],
     turns: usize,
-) -> RoundResult
+) -> TurnsUsed
     requires { Schedulable book.now shapes.now offsets.now starts.now cells.old jobs.old answers.old turns }
-    ensures answers_after { round_by result cells.new jobs.new answers.new
+    ensures answers_after { round_by (Ok result) cells.new jobs.new answers.new
         ≡ rounded_of Passed book.now launch cells.old jobs.old answers.old turns }
     ensures cells_bound { (result.cells ≤ 64) × (result.jobs ≤ 64) × (result.turns ≤ 4096) }
 {
+    // Arrays of 64 with how many are in use: the library runs in fixed memory.
     let mut held = tables::open_cells(book, offsets);
     let none = StoredJob::fresh(0, 0, Label(0), Label(0));
     let mut begun = [none; StoredJob::TABLE_SIZE];
@@ -102,6 +92,7 @@ pub fn schedule(
     let mut from: usize = 0;
     let mut at: usize = 0;
     let mut most = turns;
+    // A blocked step uses a turn, and a round ends early where no job has a step left: `most` is then the turns so far.
     while at < most {
         let begin = rotation::first_place(from, m);
         let mut i = begin;
@@ -122,11 +113,10 @@ pub fn schedule(
         at = at + 1;
         from = i + 1;
         let past = records::offset_of(pending[i].past);
-        let j = begun[i];
+        let j = &begun[i];
         let place = j.at;
         let k = records::byte(book, place);
-        let registers = j.registers;
-        let u = turns::target_of(book, place, j.source, registers);
+        let u = turns::target_of(book, place, j);
         let q = acts::clamp(u.number as usize);
         let cell = held[q];
         let near = Near {
@@ -135,9 +125,9 @@ pub fn schedule(
             jobs: m,
         };
         if k == kind::NEW {
-            let x = turns::create(book, place, j.label, j.source, registers, near);
+            let x = turns::create(book, place, j, near);
             if let Act::Create(r, d) = x {
-                let t = acts::names(j, past, r, n);
+                let t = j.names(past, r, n);
                 begun[i] = t;
                 held[n] = d;
                 n = n + 1;
@@ -148,9 +138,9 @@ pub fn schedule(
                 answers[slot] = answer::BLOCKED;
             }
         } else if k < kind::WRITE {
-            let x = give(book, place, j.label, j.source, registers, near, u);
+            let x = give(book, place, j, near, u);
             if let Act::Give(r, v) = x {
-                let t = acts::gets(j, past, r, v);
+                let t = j.gets(past, r, v);
                 begun[i] = t;
                 let p = pend(book, past);
                 pending[i] = p;
@@ -159,9 +149,9 @@ pub fn schedule(
                 answers[slot] = answer::BLOCKED;
             }
         } else if k < kind::LOWER {
-            let x = turns::change(book, place, j.label, j.source, registers, near, u);
+            let x = turns::change(book, place, j, near, u);
             if let Act::Store(d) = x {
-                let t = acts::moved(j, past);
+                let t = j.moved(past);
                 begun[i] = t;
                 held[q] = d;
                 let p = pend(book, past);
@@ -171,9 +161,9 @@ pub fn schedule(
                 answers[slot] = answer::BLOCKED;
             }
         } else if k == kind::LOWER {
-            let x = turns::lower(book, place, j.label, j.source, registers, near);
+            let x = turns::lower(book, place, j, near);
             if let Act::Lower(l, h) = x {
-                let t = acts::lowered(j, past, l, h);
+                let t = j.lowered(past, l, h);
                 begun[i] = t;
                 let p = pend(book, past);
                 pending[i] = p;
@@ -182,9 +172,9 @@ pub fn schedule(
                 answers[slot] = answer::BLOCKED;
             }
         } else {
-            let x = turns::launch(book, place, j.label, j.source, registers, near, u);
+            let x = turns::launch(book, place, j, near, u);
             if let Act::Launch(b, l, h) = x {
-                let t = acts::moved(j, past);
+                let t = j.moved(past);
                 begun[i] = t;
                 let p = pend(book, past);
                 pending[i] = p;
@@ -201,15 +191,11 @@ pub fn schedule(
         }
     }
     tables::save_cells(held, n, shapes, cells);
-    let mut y: usize = 0;
-    while y < m {
-        let j = begun[y];
-        tables::save_job(j, y, jobs);
-        y = y + 1;
+    for y in 0..m {
+        tables::save_job(begun[y], y, jobs);
     }
     tables::clear_from(jobs, m * StoredJob::BYTES);
-    RoundResult {
-        refusal: Refusal::Passed,
+    TurnsUsed {
         cells: n,
         jobs: m,
         turns: at,

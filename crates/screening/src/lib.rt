@@ -69,6 +69,7 @@ pub fn is_clear(s: &[u8]) -> bool
         blocks: 0,
         steps: 0,
     };
+    // Not by the reader: it would look up each span again, which `fit_record` has tested already.
     while o < s.len() {
         let k = s[o];
         let g = records::group_of(k);

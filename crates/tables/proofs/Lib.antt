@@ -1,5 +1,2 @@
-pub mod Parts
 pub mod Filling
-pub mod Coded
 pub mod Saved
-pub mod Opens

@@ -16,32 +16,22 @@ pub fn clear_from(dst: &mut [u8], at: usize)
     requires { at ≤ length dst.old }
     ensures { dst.new ≡ cleared dst.old at }
 {
-    for i in at..dst.len() {
-        dst[i] = 0;
-    }
+    dst[at..].fill(0);
 }
 
 // Kind, number, source.
 fn value_bytes(v: Stored) -> [u8; 6]
     ensures { result ≡ value_bytes (stored_record v) }
 {
-    let kind = acts::kind_of(v);
-    let n = v.number;
-    [
-        kind,
-        (n % 256) as u8,
-        (n / 256 % 256) as u8,
-        (n / 65536 % 256) as u8,
-        (n / 16777216 % 256) as u8,
-        v.source.0,
-    ]
+    let [a, b, c, d] = v.number.to_le_bytes();
+    [v.shown_kind(), a, b, c, d, v.source.0]
 }
 
 // Shape, trust, label, value.
 fn cell_bytes(c: StoredCell, trust: Trust) -> [u8; StoredCell::BYTES]
     ensures { result ≡ cell_bytes (trusted_record trust c) }
 {
-    let content = acts::content_of(c);
+    let content = c.content();
     let b = value_bytes(content);
     [
         c.shape, trust.0, c.label.0, b[0], b[1], b[2], b[3], b[4], b[5],
@@ -58,13 +48,8 @@ fn job_bytes(j: StoredJob) -> [u8; StoredJob::BYTES]
     out[1] = j.position as u8;
     out[2] = j.label.0;
     out[3] = j.source.0;
-    let registers = j.registers;
-    let mut i: usize = 0;
-    while i < 8 {
-        let v = registers[i];
-        let b = value_bytes(v);
-        records::copy_in(&mut out, 4 + i * 6, &b);
-        i = i + 1;
+    for (i, v) in j.registers.iter().enumerate() {
+        records::copy_in(&mut out, 4 + i * 6, &value_bytes(*v));
     }
     out
 }
@@ -79,13 +64,10 @@ pub fn save_cells(
     requires { (n ≤ 64) × (length out.old ≡ 576) }
     ensures { out.new ≡ saved_cells shapes.now (take n cells) }
 {
-    let mut i: usize = 0;
-    while i < n {
-        let c = cells[i];
+    for (i, c) in cells[..n].iter().enumerate() {
         let shape = decode::shape_in(shapes, c.shape);
-        let b = cell_bytes(c, shape.trust);
+        let b = cell_bytes(*c, shape.trust);
         records::copy_in(out, i * StoredCell::BYTES, &b);
-        i = i + 1;
     }
     clear_from(out, n * StoredCell::BYTES);
 }
@@ -95,6 +77,5 @@ pub fn save_job(j: StoredJob, i: usize, out: &mut [u8])
     requires { Narrow j × (i < 64) × (length out.old ≡ 3328) }
     ensures { Saved j i out.old out.new }
 {
-    let b = job_bytes(j);
-    records::copy_in(out, i * StoredJob::BYTES, &b);
+    records::copy_in(out, i * StoredJob::BYTES, &job_bytes(j));
 }

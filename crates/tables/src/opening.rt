@@ -22,9 +22,7 @@ fn number_in(v: Value) -> u32
     ensures { result ≡ number_of v }
 {
     match v {
-        Value::Plain(n) => n,
-        Value::CellName(k) => k,
-        Value::CodeName(b) => b,
+        Value::Plain(n) | Value::CellName(n) | Value::CodeName(n) => n,
     }
 }
 
@@ -32,20 +30,17 @@ fn number_in(v: Value) -> u32
 fn open_cell(d: Declared) -> StoredCell
     ensures { result ≡ opened_by d }
 {
-    let label = d.label;
-    let value = d.value;
-    let kind = kind_in(value);
-    let number = number_in(value);
     StoredCell {
-        number: number,
-        kind: kind,
+        number: number_in(d.value),
+        kind: kind_in(d.value),
         source: Label::TOP,
         shape: d.shape,
-        label: label,
+        label: d.label,
     }
 }
 
 // The declared cells, from their offsets.
+#[tactic(auto, unfolding(crate::specs::Opening::opened_cells))]
 pub fn open_cells(book: &[u8], offsets: &[u16]) -> [StoredCell; StoredJob::TABLE_SIZE]
     requires { Listed book.now offsets.now × (length offsets.now ≤ 64) }
     ensures { take (length offsets.now) result ≡ opened_cells book.now offsets.now }
@@ -58,15 +53,11 @@ pub fn open_cells(book: &[u8], offsets: &[u16]) -> [StoredCell; StoredJob::TABLE
         label: Label(0),
     };
     let mut cells = [none; StoredJob::TABLE_SIZE];
-    let mut i: usize = 0;
-    while i < offsets.len() {
-        let o = records::offset_of(offsets[i]);
-        let Some(d) = decode::cell_at(book, o) else {
+    for (i, offset) in offsets.iter().enumerate() {
+        let Some(d) = decode::cell_at(book, usize::from(*offset)) else {
             return cells;
         };
-        let cell = open_cell(d);
-        cells[i] = cell;
-        i = i + 1;
+        cells[i] = open_cell(d);
     }
     cells
 }
@@ -75,9 +66,7 @@ pub fn open_cells(book: &[u8], offsets: &[u16]) -> [StoredCell; StoredJob::TABLE
 pub fn start_of(starts: &[u16], block: u32, end: usize) -> usize
     ensures { result ≡ start_in starts.now block end }
 {
-    let i = block as usize;
-    if i < starts.len() {
-        return records::offset_of(starts[i]);
-    }
-    end
+    starts
+        .get(block as usize)
+        .map_or(end, |start| usize::from(*start))
 }

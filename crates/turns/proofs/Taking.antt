@@ -6,6 +6,7 @@
 use mathlib.Core.Path.{◌≡◌, refl, sym, ap, ◌∙◌}
 use mathlib.Core.Bool.{Bool, true, false}
 use Prim.Native.Nat.{ℕ, ◌+◌, ◌<◌, ◌≤◌}
+use native.Mathlib.Omega.{arith}
 use mathlib.Core.List.{List}
 use lib.Dec.{ltb}
 use lib.ListN.{get_elem?}
@@ -28,6 +29,7 @@ use Rattle.machine.specs.Events.{table_size}
 use Rattle.acts.specs.declared.Stored.{Stored}
 use Rattle.acts.specs.declared.Near.{Near}
 use Rattle.acts.specs.declared.Act.{Act}
+use Rattle.acts.specs.declared.Actor.{Actor}
 use Rattle.acts.specs.declared.Act.TheVariants.{Blocked, Give, Lower}
 use Rattle.acts.specs.Views.{value_in, stored_of, stored_content, cell_of, actor, register_in, nearby, effect_of, job_after, turn_taken, kept, settled}
 use Rattle.acts.specs.Views.{sort_of, waits, acts, Does, Makes, give_sort, lower_sort, store_sort, create_sort, launch_sort}
@@ -47,7 +49,7 @@ module _ {s : State Label} {p : Step} {l h : Label} {rs : List Stored} where
   unfolding effect_of job_after kept sort_of
   give_is q = record { takes = λ b i. rw (q b i) refl; only = acts refl }
 
--- a step of a job at label l, with source h and registers rs; y is what it looks at
+-- a step of a job at label l, with source h and registers rs; y is what it looks at, and g who acts
 module _ (l h : Label) (rs : List Stored) (y : Near) where
   pub put_is : (r n : ℕ) → Takes give_sort (nearby y) (Put r n) l h rs (Give r (record { number = n; kind = 0; source = h }))
   unfolding turn_of value_of
@@ -89,24 +91,24 @@ module _ (l h : Label) (rs : List Stored) (y : Near) where
             adding_is m i ∙ is_plain (stay sources (actor l h rs m i)) _ u.number u.kind e
             ∙ is_plain (stay sources (actor l h rs m i)) _ v.number v.kind n
 
-        module _ (z : ℕ) (ez : z ≡ u.number + v.number) where
-          pub add_past : 4294967296 ≤ z → Takes give_sort (nearby y) (Add r a b) l h rs Blocked
-          unfolding summable given
-          add_past p = blocked_is (λ m i. summing_is m i ∙ simp (← ez, le-ltb _ _ p))
+        pub add_past : (u.number + v.number < 4294967296 → ⊥) → Takes give_sort (nearby y) (Add r a b) l h rs Blocked
+        unfolding summable given
+        add_past p = let q : 4294967296 ≤ u.number + v.number = omega arith in blocked_is (λ m i. summing_is m i ∙ simp (le-ltb _ _ q))
 
-          pub add_both : (s t : Label) → z < 4294967296 → s ≡ lower u.source v.source → t ≡ lower s h
-              → Takes give_sort (nearby y) (Add r a b) l h rs (Give r (record { number = z; kind = 0; source = t }))
-          unfolding summable given value_of
-          add_both s t p es et = give_is (λ m i. summing_is m i ∙ rw (et, es) (simp (← ez, lt-ltb _ _ p)))
+        pub add_both : (z : ℕ) (s t : Label) (x : Act) → (u.number + v.number < 4294967296) × (z ≡ u.number + v.number) → s ≡ lower u.source v.source
+            → t ≡ lower s h → x ≡ Give r (record { number = z; kind = 0; source = t }) → Takes give_sort (nearby y) (Add r a b) l h rs x
+        unfolding summable given value_of
+        add_both z s t x p es et ex = rw ex (give_is (λ m i. summing_is m i ∙ rw (et, es) (simp (← p.1, lt-ltb _ _ p.0))))
 
-  pub new_is : (r i a : ℕ) (v : Stored) (x : Act) → stored_of v ≡ register_in h rs a
-      → Makes (nearby y) r (new_act sources table_size (nearby y) l h i (stored_of v)) x → Takes create_sort (nearby y) (New r i a) l h rs x
+  pub new_is : (g : Actor) → g ≡ record { label = l; source = h } → (r i a : ℕ) (v : Stored) (x : Act) → stored_of v ≡ register_in h rs a
+      → Makes (nearby y) r (new_act sources table_size (nearby y) g.label g.source i (stored_of v)) x → Takes create_sort (nearby y) (New r i a) l h rs x
   unfolding turn_of target_by
-  new_is r i a v x ev d = record { takes = λ b n. d.does (actor l h rs b n) ∙ rw ev refl; only = d.only }
+  new_is g eg r i a v x ev d = let m = rw eg at d in record { takes = λ b n. m.does (actor l h rs b n) ∙ rw ev refl; only = d.only }
 
-  pub start_is : (b : ℕ) (x : Act) → Does launch_sort (nearby y) 0 (start_act sources table_size (nearby y) l h b) x → Takes launch_sort (nearby y) (Start b) l h rs x
+  pub start_is : (g : Actor) → g ≡ record { label = l; source = h } → (b : ℕ) (x : Act)
+      → Does launch_sort (nearby y) 0 (start_act sources table_size (nearby y) g.label g.source b) x → Takes launch_sort (nearby y) (Start b) l h rs x
   unfolding turn_of target_by
-  start_is b x d = record { takes = λ m i. d.does (actor l h rs m i); only = d.only }
+  start_is g eg b x d = let n = rw eg at d in record { takes = λ m i. n.does (actor l h rs m i); only = d.only }
 
   -- v is register r
   module _ (r a b : ℕ) (v : Stored) (ev : stored_of v ≡ register_in h rs r) where
@@ -123,11 +125,12 @@ module _ (l h : Label) (rs : List Stored) (y : Near) where
     pub choose_not : (v.kind ≡ 0 → ⊥) → Takes launch_sort (nearby y) (Choose r a b) l h rs Blocked
     choose_not n = blocked_is (λ m i. choosing_is m i ∙ not_plain (stay sources (actor l h rs m i)) _ v.number v.kind n)
 
-    module _ (x : Act) (e : v.kind ≡ 0) where
-      choose_one : (c : ℕ) → chosen v.number a b ≡ c → Does launch_sort (nearby y) 0 (start_act sources table_size (nearby y) l h c) x
+    module _ (x : Act) (e : v.kind ≡ 0) (g : Actor) (eg : g ≡ record { label = l; source = h }) where
+      choose_one : (c : ℕ) → chosen v.number a b ≡ c → Does launch_sort (nearby y) 0 (start_act sources table_size (nearby y) g.label g.source c) x
           → Takes launch_sort (nearby y) (Choose r a b) l h rs x
       unfolding target_by
-      choose_one c q d =
+      choose_one c q f =
+          let d = rw eg at f in
           record {
             takes = λ m i.
                 let z : turn_of sources table_size (nearby y) (actor l h rs m i) (Choose r a b) ≡ starts m i c
@@ -136,12 +139,12 @@ module _ (l h : Label) (rs : List Stored) (y : Near) where
             only = d.only;
           }
 
-      pub choose_second : v.number ≡ 0 → Does launch_sort (nearby y) 0 (start_act sources table_size (nearby y) l h b) x
+      pub choose_second : v.number ≡ 0 → Does launch_sort (nearby y) 0 (start_act sources table_size (nearby y) g.label g.source b) x
           → Takes launch_sort (nearby y) (Choose r a b) l h rs x
       unfolding chosen given
       choose_second z d = choose_one b (simp z) d
 
-      pub choose_first : (v.number ≡ 0 → ⊥) → Does launch_sort (nearby y) 0 (start_act sources table_size (nearby y) l h a) x
+      pub choose_first : (v.number ≡ 0 → ⊥) → Does launch_sort (nearby y) 0 (start_act sources table_size (nearby y) g.label g.source a) x
           → Takes launch_sort (nearby y) (Choose r a b) l h rs x
       unfolding chosen given
       choose_first z d = choose_one a (simp (ne_eqb _ _ z)) d
@@ -218,30 +221,32 @@ module _ (l h : Label) (rs : List Stored) (y : Near) where
             only = waits refl;
           }
 
-      pub write_cell : (x : Act) (v : Stored) → u.kind ≡ 1 → stored_of v ≡ register_in h rs a
-          → Does store_sort (nearby y) u.number (write_act sources (nearby y) l h u.number (stored_of v)) x → Takes store_sort (nearby y) (Write w a) l h rs x
+      pub write_cell : (g : Actor) → g ≡ record { label = l; source = h } → (x : Act) (v : Stored) → u.kind ≡ 1 → stored_of v ≡ register_in h rs a
+          → Does store_sort (nearby y) u.number (write_act sources (nearby y) g.label g.source u.number (stored_of v)) x
+          → Takes store_sort (nearby y) (Write w a) l h rs x
       unfolding turn_of target_by
-      write_cell x v e ev d =
-          record { takes = λ b i. one_cell b i (λ k. write_act sources (nearby y) l h k (register_in h rs a)) store_sort x e (rw ev at d); only = d.only }
+      write_cell g eg x v e ev d =
+          let f = rw eg at d in
+          record { takes = λ b i. one_cell b i (λ k. write_act sources (nearby y) l h k (register_in h rs a)) store_sort x e (rw ev at f); only = d.only }
 
     module _ (o : Label) where
       pub relabel_no : (u.kind ≡ 1 → ⊥) → Takes store_sort (nearby y) (Relabel w o) l h rs Blocked
       unfolding turn_of
       relabel_no n = blocked_is (λ b i. no_cell b i (λ k. relabel_act sources (nearby y) l h k o) n)
 
-      pub relabel_cell : (x : Act) → u.kind ≡ 1 → Does store_sort (nearby y) u.number (relabel_act sources (nearby y) l h u.number o) x
-          → Takes store_sort (nearby y) (Relabel w o) l h rs x
+      pub relabel_cell : (g : Actor) → g ≡ record { label = l; source = h } → (x : Act) → u.kind ≡ 1
+          → Does store_sort (nearby y) u.number (relabel_act sources (nearby y) g.label g.source u.number o) x → Takes store_sort (nearby y) (Relabel w o) l h rs x
       unfolding turn_of target_by
-      relabel_cell x e d = record { takes = λ b i. one_cell b i (λ k. relabel_act sources (nearby y) l h k o) store_sort x e d; only = d.only }
+      relabel_cell g eg x e f = let d = rw eg at f in record { takes = λ b i. one_cell b i (λ k. relabel_act sources (nearby y) l h k o) store_sort x e d; only = d.only }
 
     pub exec_no : (u.kind ≡ 1 → ⊥) → Takes launch_sort (nearby y) (Exec w) l h rs Blocked
     unfolding turn_of
     exec_no n = blocked_is (λ b i. no_cell b i (exec_act sources table_size (nearby y) l h) n)
 
-    pub exec_cell : (x : Act) → u.kind ≡ 1 → Does launch_sort (nearby y) u.number (exec_act sources table_size (nearby y) l h u.number) x
-        → Takes launch_sort (nearby y) (Exec w) l h rs x
+    pub exec_cell : (g : Actor) → g ≡ record { label = l; source = h } → (x : Act) → u.kind ≡ 1
+        → Does launch_sort (nearby y) u.number (exec_act sources table_size (nearby y) g.label g.source u.number) x → Takes launch_sort (nearby y) (Exec w) l h rs x
     unfolding turn_of target_by
-    exec_cell x e d = record { takes = λ b i. one_cell b i (exec_act sources table_size (nearby y) l h) launch_sort x e d; only = d.only }
+    exec_cell g eg x e f = let d = rw eg at f in record { takes = λ b i. one_cell b i (exec_act sources table_size (nearby y) l h) launch_sort x e d; only = d.only }
 
 -- the code told the step apart
 pub as_told : (n : ℕ) (s : State Label) (p q : Step) (l h : Label) (rs : List Stored) (x : Act) → q ≡ p → Takes n s q l h rs x → Takes n s p l h rs x

@@ -10,9 +10,8 @@ use lib.ListN.{length}
 use Rattle.labels.proofs.Impossible.{impossible}
 use Rattle.book.specs.Missing.{Fault}
 use Rattle.std.specs.Prelude.{None, Some}
-use Rattle.book.specs.declared.Refusal.{Refusal}
-use Rattle.book.specs.declared.Refusal.TheVariants.{Passed}
-use Rattle.book.specs.declared.Refusal.TheVariants as R
+use Rattle.book.specs.Outcome.{Refusal, Passed}
+use Rattle.book.specs.Outcome as R
 use Rattle.book.specs.declared.Step.{Step}
 use Rattle.book.specs.Book.{parse, shapes_of, cells_of, blocks_of}
 use Rattle.book.specs.Refusals.{unreadable}
@@ -21,8 +20,8 @@ use Rattle.book.proofs.Limits.{most_shapes, most_cells, most_blocks}
 use Rattle.book.proofs.Readable.{readable}
 use Rattle.book.proofs.Bounds.{Below, none, more, PlacedIn, nowhere_placed, at_placed, sweep_clean, group_below, steps_below, steps_short, refused_short}
 use Rattle.typing.specs.declared.State.{State}
-use Rattle.typing.specs.declared.Verdict.{Verdict}
-use Rattle.typing.specs.declared.Verdict.TheVariants.{Accepted, Refused}
+use Rattle.typing.specs.Verdict.{Verdict}
+use Rattle.typing.specs.Verdict.{Accepted, Refused}
 use Rattle.typing.specs.Shapes.{View, view_of}
 use Rattle.typing.specs.Rules.{Typed, passes, stuck, breaks, step_rule, fault}
 use Rattle.typing.specs.Verdict.{cell_fault, or_then, block_fault, step_fault, or_refused, typed, verdict_of, verdict}

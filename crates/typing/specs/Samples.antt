@@ -4,7 +4,7 @@
 -- Assumes nothing.
 use Rattle.std.specs.Prelude.{◌≡◌, ℕ, List, [], ◌∷◌, ◌++◌}
 use Rattle.book.specs.Samples.{book_a, last_write, last_relabel, last_new, book_of_choice}
-use Rattle.typing.specs.declared.Verdict.TheVariants.{Accepted, Refused}
+use Rattle.typing.specs.Verdict.{Accepted, Refused}
 use Rattle.typing.specs.Verdict.{verdict}
 
 pub record Samples : Type 0 where

@@ -1,22 +1,31 @@
 -- The verdict on a book: refusals 1 to 8, or acceptance with the counts.
 --     cell_fault, step_fault     the first record at fault by refusals 7 and 8
+--     Verdict, verdict_by       the answer; what a call gave
 --     verdict                  the answer, for every list of bytes
 -- Assumes nothing.
 use Rattle.std.specs.Prelude.{ℕ, not, List, [], ◌∷◌, length}
 use Rattle.labels.specs.Labels.{label}
 use Rattle.book.specs.Missing.{Fault}
-use Rattle.std.specs.Prelude.{None, Some}
-use Rattle.book.specs.declared.Refusal.{Refusal}
-use Rattle.book.specs.declared.Refusal.TheVariants.{Passed}
-use Rattle.book.specs.declared.Refusal.TheVariants as R
+use Rattle.std.specs.Prelude.{None, Some, Ok, Err}
+use Rattle.book.specs.declared.Counts.{Counts}
+use Rattle.book.specs.Outcome.{Refusal, Passed, Given, ground_number}
+use Rattle.book.specs.Outcome as R
 use Rattle.book.specs.Control.{first}
 use Rattle.book.specs.Book.{parse, shapes_of, cells_of, blocks_of, steps_from, declared_at, step_at}
 use Rattle.book.specs.Refusals.{unreadable}
 use Rattle.book.specs.Outline.{bound_at, start_at, step_count}
-use Rattle.typing.specs.declared.Verdict.{Verdict}
-use Rattle.typing.specs.declared.Verdict.TheVariants.{Accepted, Refused}
 use Rattle.typing.specs.Shapes.{View, view_of, declared_ok}
 use Rattle.typing.specs.Rules.{fresh, fault}
+
+-- the answer of the check
+pub data Verdict : Type 0 where
+  Accepted : ℕ → ℕ → ℕ → ℕ → Verdict
+  Refused : ℕ → ℕ → Verdict
+
+-- what a call gave: "Acceptance reports the shapes, cells, blocks and steps in the book"
+abbrev pub verdict_by : Given Counts → Verdict
+verdict_by (Ok n) = Accepted n.shapes n.cells n.blocks n.steps
+verdict_by (Err e) = Refused (ground_number e.why) e.place
 
 -- 7: "A cell declaration breaks its typing rule."
 unfoldable pub cell_fault : View → List ℕ → List ℕ → Fault

@@ -7,9 +7,20 @@ mod rules;
 mod shapes;
 mod steps;
 
-pub use declared::is_declared_ok;
+ghost use Rattle.book.specs.Outline.{shape_in};
+ghost use Rattle.book.specs.Asked.{Sound};
+
 use labels::Label;
-pub use steps::type_step;
+
+// What typing asks of a book: C, the table of shapes, the shapes of the declared cells and the bounds of the blocks. Contents are lower-numbered.
+#[derive(Clone, Copy)]
+pub struct Tables<'a> {
+    pub c: Label,
+    pub shapes: &'a [u8],
+    pub shaped: &'a [u8],
+    pub bounds: &'a [u8],
+    pub ghost sound: { Sound (shape_in shapes.now) },
+}
 
 // What is known of the value in a register.
 #[derive(Clone, Copy)]
@@ -18,13 +29,6 @@ pub enum Known {
     Plain,
     Code(Label),
     CellOf(u8),
-}
-
-// The shape of a register that is a cell.
-#[derive(Clone, Copy)]
-pub enum KnownCell {
-    Of(u8),
-    No,
 }
 
 // A register as typing sees it: a known shape and an effect.
@@ -51,19 +55,4 @@ pub enum Stepped {
     Lowers(Label),
     Stuck,
     Breaks,
-}
-
-// The answer of the check.
-#[derive(Clone, Copy)]
-pub enum Verdict {
-    Accepted {
-        shapes: usize,
-        cells: usize,
-        blocks: usize,
-        steps: usize,
-    },
-    Refused {
-        number: u8,
-        place: usize,
-    },
 }

@@ -2,273 +2,181 @@
 ghost use Rattle.std.specs.Prelude.{◌≡◌};
 ghost use Rattle.std.proofs.Math.ListN.{get_elem?};
 ghost use Rattle.book.specs.Outline.{shape_in};
-ghost use Rattle.book.specs.Asked.{Sound};
-ghost use Rattle.typing.specs.Rules.{lowers_to, lower_rule, plain_or_low, add_rule, known, holds, name_rule, code_rule, new_rule, read_from, read_rule, write_rule};
+ghost use Rattle.typing.specs.Rules.{lower_rule, add_rule, holds, name_rule, code_rule, new_rule, read_from, read_rule, write_rule};
 ghost use Rattle.typing.specs.Rules.{relabel_rule, exec_rule, startable, start_rule, choose_rule};
-ghost use Rattle.typing.specs.Asked.{as_label, told, cell_on};
+ghost use Rattle.typing.specs.Asked.{as_label, told};
 
-use crate::{Known, KnownCell, State, Stepped, registers, shapes};
+use crate::{Known, State, Stepped, Tables};
 use book::kind;
 use labels::Label;
 
-// P is the label from here on.
-fn lower_to(t: State, q: Label) -> Stepped
-    ensures { told t result ≡ lowers_to t q }
-{
-    Stepped::Lowers(q)
-}
-
-pub fn lower_step(c: Label, t: State, q: Label) -> Stepped
-    ensures { told t result ≡ lower_rule c t q }
-{
-    let p = t.p;
-    if p.reaches(q) {
-        return lower_to(t, q);
-    }
-    if c.reaches(q) {
-        return lower_to(t, q);
-    }
-    registers::stop(t)
-}
-
-// A register is plain, or its effect is low.
-fn is_plain_or_low(c: Label, t: State, a: u8) -> bool
-    ensures { result ≡ plain_or_low c t a }
-{
-    let x = registers::register_of(t, a);
-    let effect = x.effect;
-    let known = x.known;
-    if c.reaches(effect) {
-        return true;
-    }
-    match known {
-        Known::Unknown => false,
-        Known::Plain => true,
-        Known::Code(_) => false,
-        Known::CellOf(_) => false,
-    }
-}
-
-pub fn add_step(c: Label, t: State, r: u8, a: u8, b: u8) -> Stepped
-    ensures { told t result ≡ add_rule c t r a b }
-{
-    if is_plain_or_low(c, t, a) {
-        if is_plain_or_low(c, t, b) {
-            let u = registers::used_effect(t, a);
-            let v = registers::used_effect(t, b);
-            return registers::give(t, r, Known::Plain, u.lower_of(v));
+impl Tables<'_> {
+    #[tactic(auto, unfolding(crate::specs::Rules::lower_rule, crate::specs::Rules::stuck_unless, book::specs::Control::either))]
+    pub(crate) fn lower_step(&self, t: State, q: Label) -> Stepped
+        ensures { told t result ≡ lower_rule self.now.c t q }
+    {
+        if t.p.reaches(q) || self.c.reaches(q) {
+            return Stepped::Lowers(q);
         }
-        return registers::fail(t);
+        Stepped::Stuck
     }
-    registers::fail(t)
-}
 
-pub fn name_step(shapes: &[u8], shaped: &[u8], c: Label, t: State, r: u8, k: u8) -> Stepped
-    ensures { told t result ≡ name_rule c (shape_in shapes.now) t r (get_elem? shaped.now k) }
-{
-    let n = k as usize;
-    if n < shaped.len() {
-        let i = shaped[n];
-        let x = decode::shape_in(shapes, i);
-        if x.kind == kind::CELL_SHAPE {
-            let p = t.p;
-            return registers::give(t, r, Known::CellOf(i), p);
+    #[tactic(auto, unfolding(crate::specs::Rules::breaks_unless, book::specs::Control::both))]
+    pub(crate) fn add_step(&self, t: State, r: u8, a: u8, b: u8) -> Stepped
+        ensures { told t result ≡ add_rule self.now.c t r a b }
+    {
+        if t.is_plain_or_low(self.c, a) && t.is_plain_or_low(self.c, b) {
+            let effect = t.used_effect(a).lower_of(t.used_effect(b));
+            return Stepped::gives(r, Known::Plain, effect);
         }
-        return registers::fail(t);
+        Stepped::Breaks
     }
-    registers::fail(t)
-}
 
-pub fn code_step(bounds: &[u8], t: State, r: u8, b: u8) -> Stepped
-    ensures { told t result ≡ code_rule t r (as_label (get_elem? bounds.now b)) }
-{
-    let n = b as usize;
-    if n < bounds.len() {
-        let bound = Label(bounds[n]);
-        let p = t.p;
-        return registers::give(t, r, Known::Code(bound), p);
-    }
-    registers::fail(t)
-}
-
-// The block's bound is at least P.
-fn is_startable(bounds: &[u8], p: Label, b: u8) -> bool
-    ensures { result ≡ startable p (as_label (get_elem? bounds.now b)) }
-{
-    let n = b as usize;
-    if n < bounds.len() {
-        let bound = Label(bounds[n]);
-        return bound.reaches(p);
-    }
-    false
-}
-
-pub fn start_step(bounds: &[u8], t: State, b: u8) -> Stepped
-    ensures { told t result ≡ start_rule t (as_label (get_elem? bounds.now b)) }
-{
-    let p = t.p;
-    if is_startable(bounds, p, b) {
-        return registers::pass(t);
-    }
-    registers::fail(t)
-}
-
-pub fn choose_step(bounds: &[u8], c: Label, t: State, r: u8, a: u8, b: u8) -> Stepped
-    ensures { told t result ≡ choose_rule c t r (as_label (get_elem? bounds.now a)) (as_label (get_elem? bounds.now b)) }
-{
-    let p = t.p;
-    if is_startable(bounds, p, a) {
-        if is_startable(bounds, p, b) {
-            if is_plain_or_low(c, t, r) {
-                return registers::pass(t);
-            }
-            return registers::fail(t); // r is not plain, and its effect is not low
+    #[tactic(auto, using(book::proofs::Lists::at_some, book::proofs::Lists::at_none), unfolding(crate::specs::Rules::breaks_unless, book::specs::Control::on_some))]
+    pub(crate) fn name_step(&self, t: State, r: u8, k: u8) -> Stepped
+        ensures { told t result ≡ name_rule self.now.c (shape_in self.now.shapes.now) t r (get_elem? self.now.shaped.now k) }
+    {
+        if let Some(&i) = self.shaped.get(k as usize)
+            && self.shape(i).kind == kind::CELL_SHAPE
+        {
+            return Stepped::gives(r, Known::CellOf(i), t.p);
         }
-        return registers::fail(t);
+        Stepped::Breaks
     }
-    registers::fail(t)
-}
 
-// Register a fits the content of shape i, and its used effect is at least the trust.
-fn does_hold(shapes: &[u8], c: Label, t: State, a: u8, i: u8) -> bool
-    requires { Sound (shape_in shapes.now) }
-    ensures { result ≡ holds c (shape_in shapes.now) t a i }
-{
-    let x = decode::shape_in(shapes, i);
-    let known = registers::known_in(c, t, a);
-    if shapes::does_fit(shapes, c, known, x.content) {
-        let trust = shapes::trust_of(shapes, c, i);
-        let effect = registers::used_effect(t, a);
-        return trust.is_met(effect);
-    }
-    false
-}
-
-pub fn new_step(shapes: &[u8], c: Label, t: State, r: u8, i: u8, a: u8) -> Stepped
-    requires { Sound (shape_in shapes.now) }
-    ensures { told t result ≡ new_rule c (shape_in shapes.now) t r i a }
-{
-    let p = t.p;
-    let x = decode::shape_in(shapes, i);
-    if x.kind == kind::CELL_SHAPE {
-        if shapes::is_high(shapes, c, i) {
-            if t.lowered {
-                if does_hold(shapes, c, t, a, i) {
-                    return registers::give(t, r, Known::CellOf(i), p);
-                }
-                return registers::fail(t);
-            }
-            return registers::fail(t);
-        }
-        return registers::give(t, r, Known::CellOf(i), p);
-    }
-    registers::fail(t)
-}
-
-// The shape of a register that is a cell of effect above C.
-fn cell_in(c: Label, t: State, w: u8) -> KnownCell
-    ensures { result ≡ cell_on (known c t w) }
-{
-    let known = registers::known_in(c, t, w);
-    match known {
-        Known::Unknown => KnownCell::No,
-        Known::Plain => KnownCell::No,
-        Known::Code(_) => KnownCell::No,
-        Known::CellOf(i) => KnownCell::Of(i),
-    }
-}
-
-// Register r gets what a cell of shape i holds.
-fn read_cell(shapes: &[u8], c: Label, t: State, r: u8, i: u8) -> Stepped
-    ensures { told t result ≡ read_from c (shape_in shapes.now) t r i }
-{
-    let y = decode::shape_in(shapes, i);
-    let known = shapes::known_of(shapes, c, y.content);
-    let trust = shapes::trust_of(shapes, c, i);
-    let p = t.p;
-    registers::give(t, r, known, trust.capped(p))
-}
-
-pub fn read_step(shapes: &[u8], c: Label, t: State, r: u8, w: u8) -> Stepped
-    ensures { told t result ≡ read_rule c (shape_in shapes.now) t r w }
-{
-    let x = registers::register_of(t, w);
-    let effect = x.effect;
-    if c.reaches(effect) {
-        return registers::give_low(t, r);
-    }
-    match cell_in(c, t, w) {
-        KnownCell::No => registers::fail(t),
-        KnownCell::Of(i) => read_cell(shapes, c, t, r, i),
-    }
-}
-
-pub fn write_step(shapes: &[u8], c: Label, t: State, w: u8, a: u8) -> Stepped
-    requires { Sound (shape_in shapes.now) }
-    ensures { told t result ≡ write_rule c (shape_in shapes.now) t w a }
-{
-    match cell_in(c, t, w) {
-        KnownCell::No => registers::fail(t),
-        KnownCell::Of(i) => {
-            let trust = shapes::trust_of(shapes, c, i);
-            let p = t.p;
-            if trust.is_met(p) {
-                if shapes::is_high(shapes, c, i) {
-                    if does_hold(shapes, c, t, a, i) {
-                        return registers::pass(t);
-                    }
-                    return registers::fail(t);
-                }
-                return registers::pass(t);
-            }
-            registers::stop(t)
+    #[tactic(auto, using(book::proofs::Lists::at_some, book::proofs::Lists::at_none), unfolding(book::specs::Control::on_some))]
+    pub(crate) fn code_step(&self, t: State, r: u8, b: u8) -> Stepped
+        ensures { told t result ≡ code_rule t r (as_label (get_elem? self.now.bounds.now b)) }
+    {
+        match self.bounds.get(b as usize) {
+            Some(bound) => Stepped::gives(r, Known::Code(Label(*bound)), t.p),
+            None => Stepped::Breaks,
         }
     }
-}
 
-pub fn relabel_step(shapes: &[u8], c: Label, t: State, w: u8, o: Label) -> Stepped
-    ensures { told t result ≡ relabel_rule c (shape_in shapes.now) t w o }
-{
-    match cell_in(c, t, w) {
-        KnownCell::No => registers::fail(t),
-        KnownCell::Of(i) => {
-            let trust = shapes::trust_of(shapes, c, i);
-            let p = t.p;
-            if trust.is_met(p) {
-                if p.reaches(o) {
-                    if trust.is_met(o) {
-                        return registers::pass(t);
-                    }
-                    return registers::fail(t);
-                }
-                return registers::stop(t);
-            }
-            registers::stop(t)
+    // The block's bound is at least P.
+    #[tactic(auto, using(book::proofs::Lists::at_some, book::proofs::Lists::at_none), unfolding(crate::specs::Rules::startable))]
+    fn is_startable(&self, p: Label, b: u8) -> bool
+        ensures { result ≡ startable p (as_label (get_elem? self.now.bounds.now b)) }
+    {
+        match self.bounds.get(b as usize) {
+            Some(bound) => Label(*bound).reaches(p),
+            None => false,
         }
     }
-}
 
-pub fn exec_step(shapes: &[u8], c: Label, t: State, w: u8) -> Stepped
-    ensures { told t result ≡ exec_rule c (shape_in shapes.now) t w }
-{
-    match cell_in(c, t, w) {
-        KnownCell::No => registers::fail(t),
-        KnownCell::Of(i) => {
-            let y = decode::shape_in(shapes, i);
-            let z = decode::shape_in(shapes, y.content);
-            let trust = shapes::trust_of(shapes, c, i);
-            let bound = z.bound;
-            let p = t.p;
-            if z.kind == kind::CODE_SHAPE {
-                if bound.reaches(p) {
-                    if trust.covers(p) {
-                        return registers::pass(t);
-                    }
-                    return registers::fail(t);
-                }
-                return registers::fail(t);
-            }
-            registers::fail(t)
+    #[tactic(auto, unfolding(crate::specs::Rules::breaks_unless))]
+    pub(crate) fn start_step(&self, t: State, b: u8) -> Stepped
+        ensures { told t result ≡ start_rule t (as_label (get_elem? self.now.bounds.now b)) }
+    {
+        if self.is_startable(t.p, b) {
+            Stepped::Passes
+        } else {
+            Stepped::Breaks
+        }
+    }
+
+    #[tactic(auto, unfolding(crate::specs::Rules::breaks_unless, book::specs::Control::both))]
+    pub(crate) fn choose_step(&self, t: State, r: u8, a: u8, b: u8) -> Stepped
+        ensures { told t result
+            ≡ choose_rule self.now.c t r (as_label (get_elem? self.now.bounds.now a)) (as_label (get_elem? self.now.bounds.now b)) }
+    {
+        let startable = self.is_startable(t.p, a) && self.is_startable(t.p, b);
+        if startable && t.is_plain_or_low(self.c, r) {
+            Stepped::Passes
+        } else {
+            Stepped::Breaks
+        }
+    }
+
+    // Register a fits the content of shape i, and its used effect is at least the trust.
+    #[tactic(auto, unfolding(crate::specs::Rules::holds, book::specs::Control::both))]
+    #[inline(always)]
+    fn does_hold(&self, t: State, a: u8, i: u8) -> bool
+        ensures { result ≡ holds self.now.c (shape_in self.now.shapes.now) t a i }
+    {
+        let known = t.known(self.c, a);
+        self.fits(known, self.shape(i).content) && self.trust_of(i).is_met(t.used_effect(a))
+    }
+
+    #[tactic(auto, unfolding(crate::specs::Rules::breaks_unless, book::specs::Control::both, book::specs::Control::either))]
+    pub(crate) fn new_step(&self, t: State, r: u8, i: u8, a: u8) -> Stepped
+        ensures { told t result ≡ new_rule self.now.c (shape_in self.now.shapes.now) t r i a }
+    {
+        let is_cell = self.shape(i).kind == kind::CELL_SHAPE;
+        if is_cell && (!self.is_high(i) || t.lowered && self.does_hold(t, a, i)) {
+            return Stepped::gives(r, Known::CellOf(i), t.p);
+        }
+        Stepped::Breaks
+    }
+
+    // Register r gets what a cell of shape i holds.
+    fn read_cell(&self, t: State, r: u8, i: u8) -> Stepped
+        ensures { told t result ≡ read_from self.now.c (shape_in self.now.shapes.now) t r i }
+    {
+        let known = self.known_of(self.shape(i).content);
+        Stepped::gives(r, known, self.trust_of(i).capped(t.p))
+    }
+
+    #[tactic(auto, unfolding(crate::specs::Rules::on_known_cell))]
+    pub(crate) fn read_step(&self, t: State, r: u8, w: u8) -> Stepped
+        ensures { told t result ≡ read_rule self.now.c (shape_in self.now.shapes.now) t r w }
+    {
+        if self.c.reaches(t.register(w).effect) {
+            return Stepped::gives_low(r);
+        }
+        match t.cell(self.c, w) {
+            Some(i) => self.read_cell(t, r, i),
+            None => Stepped::Breaks,
+        }
+    }
+
+    #[tactic(auto, unfolding(crate::specs::Rules::on_known_cell, crate::specs::Rules::breaks_unless, crate::specs::Rules::stuck_unless, book::specs::Control::either))]
+    pub(crate) fn write_step(&self, t: State, w: u8, a: u8) -> Stepped
+        ensures { told t result ≡ write_rule self.now.c (shape_in self.now.shapes.now) t w a }
+    {
+        let Some(i) = t.cell(self.c, w) else {
+            return Stepped::Breaks;
+        };
+        if !self.trust_of(i).is_met(t.p) {
+            return Stepped::Stuck;
+        }
+        if !self.is_high(i) || self.does_hold(t, a, i) {
+            Stepped::Passes
+        } else {
+            Stepped::Breaks
+        }
+    }
+
+    #[tactic(auto, unfolding(crate::specs::Rules::on_known_cell, crate::specs::Rules::breaks_unless, crate::specs::Rules::stuck_unless, book::specs::Control::both))]
+    pub(crate) fn relabel_step(&self, t: State, w: u8, o: Label) -> Stepped
+        ensures { told t result ≡ relabel_rule self.now.c (shape_in self.now.shapes.now) t w o }
+    {
+        let Some(i) = t.cell(self.c, w) else {
+            return Stepped::Breaks;
+        };
+        let trust = self.trust_of(i);
+        if !trust.is_met(t.p) || !t.p.reaches(o) {
+            return Stepped::Stuck;
+        }
+        if trust.is_met(o) {
+            Stepped::Passes
+        } else {
+            Stepped::Breaks
+        }
+    }
+
+    #[tactic(auto, unfolding(crate::specs::Rules::on_known_cell, crate::specs::Rules::on_known_code, crate::specs::Rules::breaks_unless, book::specs::Control::both))]
+    pub(crate) fn exec_step(&self, t: State, w: u8) -> Stepped
+        ensures { told t result ≡ exec_rule self.now.c (shape_in self.now.shapes.now) t w }
+    {
+        let Some(i) = t.cell(self.c, w) else {
+            return Stepped::Breaks;
+        };
+        let trust = self.trust_of(i);
+        match self.known_of(self.shape(i).content) {
+            Known::Code(bound) if bound.reaches(t.p) && trust.covers(t.p) => Stepped::Passes,
+            _ => Stepped::Breaks,
         }
     }
 }

@@ -1,98 +1,89 @@
-// Shapes: likeness, and what fits a content. A table of shapes is an outline's, four bytes to a shape.
+// Shapes: likeness, and what fits a content. A table of shapes is an outline's, four bytes to a shape. What is always inlined knows the table's length
+// from the caller, and tests no bounds.
 ghost use Rattle.std.specs.Prelude.{◌≡◌};
 ghost use Rattle.book.specs.Outline.{shape_in};
-ghost use Rattle.book.specs.Asked.{Sound};
 ghost use Rattle.typing.specs.Shapes.{counted_trust, is_high_trust, alike, known_of, fits};
 ghost use Rattle.typing.specs.Asked.{is_plain};
 
-use crate::Known;
+use crate::{Known, Tables};
 use book::{Shape, kind};
-use labels::{Label, Trust};
+use labels::Trust;
 
+#[tactic(auto, unfolding(book::specs::Control::both))]
 fn is_plain(x: Shape) -> bool
     ensures { result ≡ is_plain x }
 {
-    if x.kind == kind::CODE_SHAPE {
-        return false;
+    x.kind != kind::CODE_SHAPE && x.kind != kind::CELL_SHAPE
+}
+
+impl Tables<'_> {
+    // The shape of a number.
+    pub(crate) fn shape(&self, i: u8) -> Shape
+        ensures { result ≡ shape_in self.now.shapes.now i }
+    {
+        decode::shape_in(self.shapes, i)
     }
-    x.kind != kind::CELL_SHAPE
-}
 
-// The trust of a shape, as typing counts it.
-pub fn trust_of(shapes: &[u8], c: Label, i: u8) -> Trust
-    ensures { result ≡ counted_trust c (shape_in shapes.now) i }
-{
-    let x = decode::shape_in(shapes, i);
-    let trust = x.trust;
-    trust.normal(c)
-}
-
-// The trust of a shape is above C.
-pub fn is_high(shapes: &[u8], c: Label, i: u8) -> bool
-    ensures { result ≡ is_high_trust c (shape_in shapes.now) i }
-{
-    let trust = trust_of(shapes, c, i);
-    trust.is_high(c)
-}
-
-// Two shapes are alike. The number falls with each call, since contents are lower-numbered.
-pub fn are_alike(shapes: &[u8], c: Label, i: u8, j: u8) -> bool
-    requires { Sound (shape_in shapes.now) }
-    ensures { result ≡ alike c (shape_in shapes.now) i j }
-{
-    let a = decode::shape_in(shapes, i);
-    let b = decode::shape_in(shapes, j);
-    if a.kind == kind::CODE_SHAPE {
-        if b.kind == kind::CODE_SHAPE {
-            return a.bound.0 == b.bound.0;
-        }
-        return false;
+    // The trust of a shape, as typing counts it.
+    pub(crate) fn trust_of(&self, i: u8) -> Trust
+        ensures { result ≡ counted_trust self.now.c (shape_in self.now.shapes.now) i }
+    {
+        self.shape(i).trust.normal(self.c)
     }
-    if a.kind == kind::CELL_SHAPE {
-        if b.kind == kind::CELL_SHAPE {
-            let s = trust_of(shapes, c, i);
-            let t = trust_of(shapes, c, j);
-            if s.0 == t.0 {
-                return are_alike(shapes, c, a.content, b.content);
+
+    // The trust of a shape is above C.
+    pub(crate) fn is_high(&self, i: u8) -> bool
+        ensures { result ≡ is_high_trust self.now.c (shape_in self.now.shapes.now) i }
+    {
+        self.trust_of(i).is_high(self.c)
+    }
+
+    // Two shapes are alike. The number falls with each call, since contents are lower-numbered.
+    #[tactic(auto, using(crate::proofs::Likes::likes), unfolding(crate::specs::Shapes::alike, crate::specs::Shapes::alike_in, book::specs::Control::both, book::specs::Control::either))]
+    #[inline(always)]
+    pub(crate) fn are_alike(&self, i: u8, j: u8) -> bool
+        ensures { result ≡ alike self.now.c (shape_in self.now.shapes.now) i j }
+    {
+        let a = self.shape(i);
+        let b = self.shape(j);
+        match a.kind {
+            kind::CODE_SHAPE => b.kind == kind::CODE_SHAPE && a.bound == b.bound,
+            kind::CELL_SHAPE => {
+                b.kind == kind::CELL_SHAPE
+                    && self.trust_of(i) == self.trust_of(j)
+                    && self.are_alike(a.content, b.content)
             }
-            return false;
+            _ => is_plain(b),
         }
-        return false;
     }
-    is_plain(b)
-}
 
-// What is known of a value that has this shape.
-pub fn known_of(shapes: &[u8], c: Label, i: u8) -> Known
-    ensures { result ≡ known_of c (shape_in shapes.now) i }
-{
-    let x = decode::shape_in(shapes, i);
-    let bound = x.bound;
-    if x.kind == kind::CODE_SHAPE {
-        return Known::Code(bound);
+    // What is known of a value that has this shape.
+    #[tactic(auto, unfolding(crate::specs::Shapes::known_of))]
+    pub(crate) fn known_of(&self, i: u8) -> Known
+        ensures { result ≡ known_of self.now.c (shape_in self.now.shapes.now) i }
+    {
+        let x = self.shape(i);
+        match x.kind {
+            kind::CODE_SHAPE => Known::Code(x.bound),
+            kind::CELL_SHAPE => Known::CellOf(i),
+            _ => Known::Plain,
+        }
     }
-    if x.kind == kind::CELL_SHAPE {
-        return Known::CellOf(i);
-    }
-    Known::Plain
-}
 
-// A register of this known shape fits the content shape.
-pub fn does_fit(shapes: &[u8], c: Label, known: Known, i: u8) -> bool
-    requires { Sound (shape_in shapes.now) }
-    ensures { result ≡ fits c (shape_in shapes.now) known i }
-{
-    match known {
-        Known::Unknown => false,
-        Known::Plain => is_plain(decode::shape_in(shapes, i)),
-        Known::Code(b) => {
-            let x = decode::shape_in(shapes, i);
-            let bound = x.bound;
-            if x.kind == kind::CODE_SHAPE {
-                return b.reaches(bound);
+    // A register of this known shape fits the content shape.
+    #[tactic(auto, unfolding(crate::specs::Shapes::fits, book::specs::Control::both))]
+    #[inline(always)]
+    pub(crate) fn fits(&self, known: Known, i: u8) -> bool
+        ensures { result ≡ fits self.now.c (shape_in self.now.shapes.now) known i }
+    {
+        match known {
+            Known::Unknown => false,
+            Known::Plain => is_plain(self.shape(i)),
+            Known::Code(b) => {
+                let x = self.shape(i);
+                x.kind == kind::CODE_SHAPE && b.reaches(x.bound)
             }
-            false
+            Known::CellOf(j) => self.are_alike(j, i),
         }
-        Known::CellOf(j) => are_alike(shapes, c, j, i),
     }
 }

@@ -1,78 +1,64 @@
 // The typing rule of a step: by P, and by the step's kind.
 ghost use Rattle.std.specs.Prelude.{◌≡◌};
 ghost use Rattle.book.specs.Outline.{shape_in};
-ghost use Rattle.book.specs.Asked.{Sound};
 ghost use Rattle.typing.specs.Rules.{low_rule, high_rule, step_rule};
-ghost use Rattle.typing.specs.Asked.{table_view, told};
+ghost use Rattle.typing.specs.Asked.{viewed, told};
 
-use crate::{Known, State, Stepped, registers, rules, shapes};
+use crate::{Known, State, Stepped, Tables};
 use book::Step;
-use labels::Label;
 
-// A step at P at or below C.
-fn type_low(shapes: &[u8], c: Label, t: State, p: Step) -> Stepped
-    ensures { told t result ≡ low_rule c (shape_in shapes.now) t p }
-{
-    match p {
-        Step::Put(r, _) => registers::give_low(t, r),
-        Step::Name(r, _) => registers::give_low(t, r),
-        Step::Code(r, _) => registers::give_low(t, r),
-        Step::Add(r, _, _) => registers::give_low(t, r),
-        Step::New(r, i, _) => {
-            if shapes::is_high(shapes, c, i) {
-                return registers::fail(t);
-            }
-            registers::give_low(t, r)
+impl Tables<'_> {
+    // A step at P at or below C.
+    #[tactic(auto, unfolding(crate::specs::Rules::low_rule, crate::specs::Rules::breaks_unless))]
+    fn type_low(&self, t: State, p: Step) -> Stepped
+        ensures { told t result ≡ low_rule self.now.c (shape_in self.now.shapes.now) t p }
+    {
+        match p {
+            Step::New(_, i, _) if self.is_high(i) => Stepped::Breaks,
+            Step::Put(r, _)
+            | Step::Name(r, _)
+            | Step::Code(r, _)
+            | Step::Add(r, _, _)
+            | Step::New(r, _, _)
+            | Step::Read(r, _) => Stepped::gives_low(r),
+            Step::Lower(q) => self.lower_step(t, q),
+            Step::Write(_, _)
+            | Step::Relabel(_, _)
+            | Step::Start(_)
+            | Step::Exec(_)
+            | Step::Choose(_, _, _) => Stepped::Passes,
         }
-        Step::Read(r, _) => registers::give_low(t, r),
-        Step::Write(_, _) => registers::pass(t),
-        Step::Relabel(_, _) => registers::pass(t),
-        Step::Lower(q) => rules::lower_step(c, t, q),
-        Step::Start(_) => registers::pass(t),
-        Step::Exec(_) => registers::pass(t),
-        Step::Choose(_, _, _) => registers::pass(t),
     }
-}
 
-// A step at P above C.
-fn type_high(shapes: &[u8], shaped: &[u8], bounds: &[u8], c: Label, t: State, p: Step) -> Stepped
-    requires { Sound (shape_in shapes.now) }
-    ensures { told t result ≡ high_rule (table_view c shapes.now shaped.now bounds.now) t p }
-{
-    match p {
-        Step::Put(r, _) => {
-            let effect = t.p;
-            registers::give(t, r, Known::Plain, effect)
+    // A step at P above C.
+    #[tactic(auto, unfolding(crate::specs::Rules::high_rule))]
+    fn type_high(&self, t: State, p: Step) -> Stepped
+        ensures { told t result ≡ high_rule (viewed self.now) t p }
+    {
+        match p {
+            Step::Put(r, _) => Stepped::gives(r, Known::Plain, t.p),
+            Step::Name(r, k) => self.name_step(t, r, k),
+            Step::Code(r, b) => self.code_step(t, r, b),
+            Step::Add(r, a, b) => self.add_step(t, r, a, b),
+            Step::New(r, i, a) => self.new_step(t, r, i, a),
+            Step::Read(r, w) => self.read_step(t, r, w),
+            Step::Write(w, a) => self.write_step(t, w, a),
+            Step::Relabel(w, o) => self.relabel_step(t, w, o),
+            Step::Lower(q) => self.lower_step(t, q),
+            Step::Start(b) => self.start_step(t, b),
+            Step::Exec(w) => self.exec_step(t, w),
+            Step::Choose(r, a, b) => self.choose_step(t, r, a, b),
         }
-        Step::Name(r, k) => rules::name_step(shapes, shaped, c, t, r, k),
-        Step::Code(r, b) => rules::code_step(bounds, t, r, b),
-        Step::Add(r, a, b) => rules::add_step(c, t, r, a, b),
-        Step::New(r, i, a) => rules::new_step(shapes, c, t, r, i, a),
-        Step::Read(r, w) => rules::read_step(shapes, c, t, r, w),
-        Step::Write(w, a) => rules::write_step(shapes, c, t, w, a),
-        Step::Relabel(w, o) => rules::relabel_step(shapes, c, t, w, o),
-        Step::Lower(q) => rules::lower_step(c, t, q),
-        Step::Start(b) => rules::start_step(bounds, t, b),
-        Step::Exec(w) => rules::exec_step(shapes, c, t, w),
-        Step::Choose(r, a, b) => rules::choose_step(bounds, c, t, r, a, b),
     }
-}
 
-// The typing rule of a step.
-pub fn type_step(
-    shapes: &[u8],
-    shaped: &[u8],
-    bounds: &[u8],
-    c: Label,
-    t: State,
-    p: Step,
-) -> Stepped
-    requires { Sound (shape_in shapes.now) }
-    ensures { told t result ≡ step_rule (table_view c shapes.now shaped.now bounds.now) t p }
-{
-    let label = t.p;
-    if c.reaches(label) {
-        return type_low(shapes, c, t, p);
+    // The typing rule of a step.
+    #[tactic(auto, unfolding(crate::specs::Rules::step_rule))]
+    pub fn type_step(&self, t: State, p: Step) -> Stepped
+        ensures { told t result ≡ step_rule (viewed self.now) t p }
+    {
+        if self.c.reaches(t.p) {
+            return self.type_low(t, p);
+        }
+        self.type_high(t, p)
     }
-    type_high(shapes, shaped, bounds, c, t, p)
 }

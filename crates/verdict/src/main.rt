@@ -9,6 +9,7 @@ ghost use Rattle.std.specs.Io.KnownBytes.{Consumes, IsAtEnd};
 
 use std::io;
 use std::io::Read;
+use words::Words;
 
 // Fills the space as far as the input goes, and gives the number of its bytes.
 fn fill<R: Read>(input: &mut R, space: &mut [u8]) -> io::Result<usize>
@@ -17,6 +18,7 @@ fn fill<R: Read>(input: &mut R, space: &mut [u8]) -> io::Result<usize>
     ensures all { IfOk result (λ n. n < length space.new → IsAtEnd (R.remaining input.new)) }
 {
     let mut n: usize = 0;
+    // As many bytes at once as the input gives, and so no `for`.
     while n < space.len() {
         let more = input.read(&mut space[n..])?;
         if more == 0 {
@@ -30,5 +32,5 @@ fn fill<R: Read>(input: &mut R, space: &mut [u8]) -> io::Result<usize>
 fn main(rt: HostRuntime) -> io::Result<()> {
     let mut space = [0u8; 32770];
     let n = fill(&mut rt.stdin(), &mut space)?;
-    words::answer(&rt, checking::check(&space[..n]))
+    println!(&rt; "{}", Words(checking::check(&space[..n])))
 }

@@ -1,16 +1,19 @@
 // The words of a verdict.
-use std::io;
-use std::io::Print;
-use typing::Verdict;
+use book::{Counts, Refused};
+use std::fmt;
 
-pub fn answer(rt: &impl Print, verdict: Verdict) -> io::Result<()> {
-    match verdict {
-        Verdict::Refused { number, place } => println!(rt; "refused {number} at {place}"),
-        Verdict::Accepted {
-            shapes,
-            cells,
-            blocks,
-            steps,
-        } => println!(rt; "accepted shapes {shapes} cells {cells} blocks {blocks} steps {steps}"),
+#[derive(Clone, Copy)]
+pub struct Words(pub Result<Counts, Refused>);
+
+impl fmt::Display for Words {
+    fn fmt<W: fmt::Write>(&self, f: &mut fmt::Formatter<W>) -> fmt::Result {
+        match self.0 {
+            Ok(n) => write!(
+                f,
+                "accepted shapes {} cells {} blocks {} steps {}",
+                n.shapes, n.cells, n.blocks, n.steps
+            ),
+            Err(e) => write!(f, "refused {} at {}", e.why.number(), e.place),
+        }
     }
 }

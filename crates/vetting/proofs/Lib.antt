@@ -1,5 +1,4 @@
 pub mod Passes
 pub mod RowsPass
 pub mod TablesPass
-pub mod RowTests
 pub mod Vetted

@@ -1,208 +1,169 @@
--- Laws of the loops over the rows of a table: those before row i are sound.
---     rows_long                          how many rows a table has
---     ShapesUpto, shape_loops, ..        the loop over each table
+-- Laws of the tests of a table: what is found of the bytes of each row is so of the rows.
+--     all_passed                         what `all` found of each item
+--     Chunk, rows_of, each_of            the bytes of a row; the rows of lent bytes; each row
+--     ShapePasses, shapes_sound, ..      what is found of the bytes of a row; the table
+--     BlocksUpto, blocks_start, ..       the loop over the blocks
+--     shape_is                           a shape row is a cell shape
 --     vetted                             the tables, where each is found sound
 -- Assumes nothing.
-use mathlib.Core.Path.{◌≡◌, refl, sym, subst, ◌∙◌}
-use mathlib.Core.Bool.{Bool, true, false}
-use mathlib.Core.List.{List}
-use Prim.Native.Nat.{ℕ, zero, suc, ◌+◌, ◌-◌, ◌*◌, ◌/◌, ◌<◌, ◌≤◌}
-use native.Mathlib.Omega.{arith}
-use lib.Dec.{eqb}
-use lib.ListN.{length}
-use borrow.Author.Tests.{eqb-true, eqb-false}
+use Rattle.std.proofs.Common.{◌≡◌, refl, sym, ap, ◌∙◌, Bool, true, List, [], ℕ, zero, suc, ◌+◌, ◌-◌, ◌*◌, ◌/◌, ◌<◌, ◌≤◌, Option}
+use Rattle.std.proofs.Common.{arith, drop-cons, ◌∷◌, map, length, take, drop, get_or, add-zero, add-one, get_or-take, get_or-drop, below_more}
+use Rattle.std.proofs.lemmas.List.{drop_all, drop-drop, get_or-map, length-map}
+use denote.Param.Members.{Mut, Called}
+use Rattle.std.specs.Iterator.{ChecksAll}
+use Rattle.std.specs.List.{All, enumerate_from}
+use Rattle.std.proofs.lemmas.Iterator.{YieldsList, cases_from_all}
+use Rattle.std.specs.Simd.{first_chunks}
+use Rattle.std.proofs.lemmas.List.FromFn.{length-enumerate_from, get_or-enumerate_from}
 use Rattle.labels.specs.declared.Label.{Label}
 use Rattle.book.specs.Records.{byte_at, number_at}
-use Rattle.rows.specs.Rows.{ShapeRow, BlockRow, rows_from, shape_row_in, cell_row_in, block_row_in, step_row_in, shape_rows_in, cell_rows_in, block_rows_in, step_rows_in, tables_in, total}
-use Rattle.vetting.specs.Asked.{SoundTables, CellShape, ShapeSound, ValueSound, CellSound, BlockSound, StepSound, Each, ShapesSound, CellsSound, BlocksSound, StepsSound}
+use Rattle.rows.specs.Rows.{ShapeRow, rows_from, shape_row_in, cell_row_in, block_row_in, step_row_in, shape_rows_in, cell_rows_in, block_rows_in, step_rows_in, tables_in, total}
+use Rattle.vetting.specs.Asked.{shapes_of, cells_of, blocks_of, steps_of, SoundTables, CellShape, ShapeSound, CellSound, BlockSound, StepSound, Each, ShapesSound, CellsSound, BlocksSound, StepsSound}
 use Rattle.vetting.proofs.TablesPass.{sound}
 
--- rows of a table
-module _ {A : Type 0} (f : ℕ → A) where
-  pub rows_long : (n a : ℕ) → length (rows_from f n a) ≡ n
-  unfolding rows_from
-  rows_long zero a = refl
-  rows_long (suc n) a = let e = rows_long n (suc a) in omega arith
+-- what `all` found of each item, where it answers true
+pub all_passed : {S A B F : Type 0} {steps : S → Option A → S → Type 0} {v : A → B} {g : Mut F (A × Unit {0}) Bool} {s : S} {l : List B} (f : F) (r : Bool) (u : S) (P : B → Type 0)
+    → ChecksAll steps g s f r u → YieldsList steps v s l → ((x : A) (q : F) → Called g f (x, tt) true q → (q ≡ f) × P (v x)) → r ≡ true → All P l
+all_passed f r u P ran items one e = λ k d i. (rw e at (cases_from_all u f r P (λ x. Unit {0}) ran items one (λ x q h. tt))) k d (omega arith) i
 
-  rows_each : (P : ℕ → A → Type 0) (n a : ℕ) → ((j : ℕ) → j < a + n → P j (f j)) → Each P a (rows_from f n a)
-  unfolding rows_from
-  rows_each P zero a h = tt
-  rows_each P (suc n) a h = (h a (omega arith), rows_each P n (suc a) (λ j l. h j (omega arith)))
+-- c has the bytes of t from o on, w of them
+record Chunk (w : ℕ) (t c : List ℕ) (o : ℕ) : Type 0 where
+  has : (i k : ℕ) → i < w → k ≡ o + i → byte_at c i ≡ byte_at t k
 
-  -- a table of n rows, all sound
-  rows_all : (P : ℕ → A → Type 0) (n m i : ℕ) → n ≡ m → n ≤ i → ((j : ℕ) → j < i → P j (f j)) → Each P 0 (rows_from f m 0)
-  rows_all P n m i e l h = rows_each P m 0 (λ j k. h j (omega arith))
+chunk : (w : ℕ) (t : List ℕ) (o : ℕ) → Chunk w t (take w (drop o t)) o
+chunk w t o = record { has = λ i k l e. get_or-take w (drop o t) i 0 l ∙ get_or-drop o t i 0 ∙ ap (byte_at t) (sym e) }
 
--- one more
-upto : (Q : ℕ → Type 0) (i : ℕ) → ((j : ℕ) → j < i → Q j) → Q i → (j : ℕ) → j < i + 1 → Q j
-upto Q i h q j l = go (eqb j i) refl
-  where
-    go : (b : Bool) → eqb j i ≡ b → Q j
-    go true e = let z : j ≡ i = eqb-true j i e in rw z q
-    go false e = let d = eqb-false j i e in h j (omega arith)
-
-pub record ShapesUpto (t : List ℕ) (n i : ℕ) : Type 0 where
-  pub rows : n ≡ length t / 3
-  pub few : n ≤ 32
-  pub inside : i ≤ n
-  pub each : (j : ℕ) → j < i → ShapeSound j (byte_at t (j * 3)) (byte_at t (j * 3 + 1)) (byte_at t (j * 3 + 2))
-
-pub shapes_start : (t : List ℕ) (n : ℕ) → n ≡ length t / 3 → n ≤ 32 → ShapesUpto t n 0
-shapes_start t n e h = record { rows = e; few = h; inside = omega arith; each = λ j l. absurd (omega arith) }
-
-module _ (t : List ℕ) (n i : ℕ) (k : ShapesUpto t n i) where
-  pub shapes_inside : i < n → i * 3 + 3 ≤ length t
-  shapes_inside h = omega (arith, k.rows)
-
-  pub shapes_on : (b : Bool) → i < n → (b ≡ true → ShapeSound i (byte_at t (i * 3)) (byte_at t (i * 3 + 1)) (byte_at t (i * 3 + 2))) → b ≡ true → ShapesUpto t n (i + 1)
-  shapes_on b h s e = record { rows = k.rows; few = k.few; inside = omega arith; each = upto _ i k.each (s e) }
-
-  pub shapes_end : n ≤ i → ShapesSound (shape_rows_in t)
+module _ (t c : List ℕ) (o : ℕ) where
+  shape_in : Chunk 3 t c o → shape_row_in c 0 ≡ shape_row_in t o
   unfolding shape_row_in
-  shapes_end h =
-      record {
-        few = omega (arith, k.rows, k.few, rows_long (λ i. shape_row_in t (i * 3)) (length t / 3) 0);
-        each = rows_all (λ i. shape_row_in t (i * 3)) _ n (length t / 3) i k.rows h k.each;
-      }
+  shape_in h = cc (h.has 0 o (omega arith) (omega arith), h.has 1 (o + 1) (omega arith) refl, h.has 2 (o + 2) (omega arith) refl)
 
-pub ruleset shape_loops = (shapes_start, shapes_inside, shapes_on, shapes_end)
+  cell_in : Chunk 7 t c o → cell_row_in c 0 ≡ cell_row_in t o
+  unfolding cell_row_in number_at
+  cell_in h =
+      cc (
+        h.has 0 o (omega arith) (omega arith),
+        h.has 1 (o + 1) (omega arith) refl,
+        h.has 2 (o + 2) (omega arith) refl,
+        h.has 3 (o + 3) (omega arith) refl,
+        h.has 4 (o + 3 + 1) (omega arith) (omega arith),
+        h.has 5 (o + 3 + 2) (omega arith) (omega arith),
+        h.has 6 (o + 3 + 3) (omega arith) (omega arith),
+      )
 
-pub record CellsUpto (t : List ℕ) (shapes : List ShapeRow) (blocks n i : ℕ) : Type 0 where
-  pub rows : n ≡ length t / 7
-  pub few : n ≤ 32
-  pub inside : i ≤ n
-  pub each : (j : ℕ) → j < i → CellSound shapes n blocks (cell_row_in t (j * 7))
+  block_in : Chunk 5 t c o → block_row_in c 0 ≡ block_row_in t o
+  unfolding block_row_in number_at
+  block_in h =
+      cc (
+        h.has 0 o (omega arith) (omega arith),
+        h.has 1 (o + 1) (omega arith) refl,
+        h.has 2 (o + 1 + 1) (omega arith) (omega arith),
+        h.has 3 (o + 1 + 2) (omega arith) (omega arith),
+        h.has 4 (o + 1 + 3) (omega arith) (omega arith),
+      )
 
-pub cells_start : (t : List ℕ) (shapes : List ShapeRow) (blocks n : ℕ) → n ≡ length t / 7 → n ≤ 32 → CellsUpto t shapes blocks n 0
-cells_start t shapes blocks n e h = record { rows = e; few = h; inside = omega arith; each = λ j l. absurd (omega arith) }
+  step_in : Chunk 8 t c o → step_row_in c 0 ≡ step_row_in t o
+  unfolding step_row_in number_at
+  step_in h =
+      cc (
+        h.has 0 o (omega arith) (omega arith),
+        h.has 1 (o + 1) (omega arith) refl,
+        h.has 2 (o + 2) (omega arith) refl,
+        h.has 3 (o + 3) (omega arith) refl,
+        h.has 4 (o + 4) (omega arith) refl,
+        h.has 5 (o + 4 + 1) (omega arith) (omega arith),
+        h.has 6 (o + 4 + 2) (omega arith) (omega arith),
+        h.has 7 (o + 4 + 3) (omega arith) (omega arith),
+      )
 
-module _ (t : List ℕ) (shapes : List ShapeRow) (blocks n i : ℕ) (k : CellsUpto t shapes blocks n i) where
-  pub cells_inside : i < n → i * 7 + 7 ≤ length t
-  cells_inside h = omega (arith, k.rows)
+-- the rows of lent bytes are those of its chunks
+module _ {A : Type 0} (w : ℕ) (row : List ℕ → ℕ → A) (inside : (t c : List ℕ) (o : ℕ) → Chunk w t c o → row c 0 ≡ row t o) (t : List ℕ) where
+  rows_of : (m a : ℕ) → rows_from (λ i. row t (i * w)) m a ≡ map (λ c. row c 0) (first_chunks w m (drop (a * w) t))
+  unfolding rows_from
+  rows_of zero a = refl
+  rows_of (suc m) a =
+      let o : a * w + w ≡ suc a * w = omega arith in
+      let c = take w (drop (a * w) t) in
+      rw (inside t c (a * w) (chunk w t (a * w)), drop-drop, o) (ap (λ l. row t (a * w) ∷ l) (rows_of m (suc a)))
 
-  pub cells_on : (a b : Bool) (m : ℕ) → i < n → byte_at t (i * 7 + 1) ≤ 15 → (a ≡ true → CellShape shapes (byte_at t (i * 7))) → a ≡ true
-      → m ≡ number_at t (i * 7 + 3) → (b ≡ true → ValueSound n blocks (byte_at t (i * 7 + 2)) m) → b ≡ true → CellsUpto t shapes blocks n (i + 1)
-  unfolding cell_row_in
-  cells_on a b m h l s ea em v eb =
-      record {
-        rows = k.rows;
-        few = k.few;
-        inside = omega arith;
-        each = upto _ i k.each (record { shaped = s ea; labelled = l; valued = rw em at (v eb) });
-      }
+-- each row of a table, from its bytes
+each_of : {A B : Type 0} (P : ℕ → A → Type 0) (f : B → A) (d : B) (l : List B) (a : ℕ) → ((j : ℕ) → j < length l → P (a + j) (f (get_or l j d))) → Each P a (map f l)
+each_of P f d [] a h = tt
+each_of P f d (x ∷ l) a h = (rw add-zero at (h 0 (omega arith)), each_of P f d l (suc a) (λ j k. let z : a + suc j ≡ suc a + j = omega arith in rw z at (h (suc j) (omega arith))))
 
-  pub cells_end : n ≤ i → CellsSound (cell_rows_in t) shapes blocks
-  cells_end h =
-      let e = rows_long (λ i. cell_row_in t (i * 7)) (length t / 7) 0 in
-      let q : length (cell_rows_in t) ≡ n = e ∙ sym k.rows in
-      record {
-        few = omega (arith, k.few);
-        each = rw q (rows_all (λ i. cell_row_in t (i * 7)) (λ i r. CellSound shapes n blocks r) n (length t / 7) i k.rows h k.each);
-      }
+-- what the tests find of the bytes of a row
+abbrev pub ShapePasses : ℕ × List ℕ → Type 0
+ShapePasses p = let r = shape_row_in p.1 0 in ShapeSound p.0 r.kind r.x r.y
 
-pub ruleset cell_loops = (cells_start, cells_inside, cells_on, cells_end)
+abbrev pub CellPasses : List ShapeRow → ℕ → ℕ → List ℕ → Type 0
+CellPasses shapes cells blocks c = CellSound shapes cells blocks (cell_row_in c 0)
 
-abbrev blocks_from : List ℕ → ℕ → ℕ → List BlockRow
-blocks_from t n i = rows_from (λ i. block_row_in t (i * 5)) n i
+abbrev pub StepPasses : List ShapeRow → ℕ → ℕ → List ℕ → Type 0
+StepPasses shapes cells blocks c = let r = step_row_in c 0 in StepSound shapes cells blocks r.kind r.x r.y r.z
 
-pub record BlocksUpto (t : List ℕ) (steps n left i : ℕ) : Type 0 where
-  pub rows : n ≡ length t / 5
-  pub some : 0 < n
-  pub few : n ≤ 64
-  pub inside : i ≤ n
-  pub each : (j : ℕ) → j < i → BlockSound (block_row_in t (j * 5))
-  pub counted : total (block_rows_in t) + left ≡ total (blocks_from t (n - i) i) + steps
+pub shapes_sound : (l : List (List ℕ)) → length l ≤ 32 → All ShapePasses (enumerate_from 0 l) → ShapesSound (shapes_of l)
+shapes_sound l few h =
+    record {
+      few = omega (arith, length-map l (λ r. shape_row_in r 0));
+      each = each_of _ _ [] l 0 (λ j k. rw get_or-enumerate_from at (h j (0, []) (omega (arith, length-enumerate_from 0 l))));
+    }
 
-pub blocks_start : (t : List ℕ) (steps n : ℕ) → n ≡ length t / 5 → (n ≡ 0 → ⊥) → n ≤ 64 → BlocksUpto t steps n steps 0
-blocks_start t steps n e z h =
-    let q : n - 0 ≡ length t / 5 = omega arith in
-    record { rows = e; some = omega arith; few = h; inside = omega arith; each = λ j l. absurd (omega arith); counted = rw q refl }
+pub cells_sound : (l : List (List ℕ)) (shapes : List ShapeRow) (blocks : ℕ) → length l ≤ 32 → All (CellPasses shapes (length l) blocks) l → CellsSound (cells_of l) shapes blocks
+cells_sound l shapes blocks few h = record { few = omega (arith, length-map l (λ r. cell_row_in r 0)); each = rw length-map (each_of _ _ [] l 0 (λ j k. h j [] k)) }
 
-module _ (t : List ℕ) (steps n left i : ℕ) (k : BlocksUpto t steps n left i) where
-  pub blocks_inside : i < n → i * 5 + 5 ≤ length t
-  blocks_inside h = omega (arith, k.rows)
+pub steps_sound : (l : List (List ℕ)) (shapes : List ShapeRow) (cells blocks : ℕ) → All (StepPasses shapes cells blocks) l → StepsSound (steps_of l) shapes cells blocks
+steps_sound l shapes cells blocks h = record { each = each_of _ _ [] l 0 (λ j k. h j [] k) }
 
+-- the blocks before the i-th are sound, and their counts and what is left make the steps
+pub record BlocksUpto (l : List (List ℕ)) (steps left i : ℕ) : Type 0 where
+  pub each : (j : ℕ) → j < i → BlockSound (block_row_in (get_or l j []) 0)
+  pub counted : total (blocks_of l) + left ≡ total (blocks_of (drop i l)) + steps
+
+pub blocks_start : (l : List (List ℕ)) (steps : ℕ) → BlocksUpto l steps steps 0
+blocks_start l steps = record { each = λ j l. absurd (omega arith); counted = refl }
+
+module _ (l : List (List ℕ)) (steps left i : ℕ) (k : BlocksUpto l steps left i) where
   -- the count of block i, and the rest
-  taken : i < n → total (blocks_from t (n - i) i) ≡ number_at t (i * 5 + 1) + total (blocks_from t (n - (i + 1)) (i + 1))
-  unfolding rows_from total block_row_in
-  taken h =
-      let e : n - i ≡ suc (n - (i + 1)) = omega arith in
-      let f : suc i ≡ i + 1 = omega arith in
-      rw (e, ← f) refl
+  taken : i < length l → total (blocks_of (drop i l)) ≡ (block_row_in (get_or l i []) 0).steps + total (blocks_of (drop (i + 1) l))
+  unfolding total
+  taken h = rw (drop-cons l i [], add-one) refl
 
-  pub blocks_on : (c rest : ℕ) → i < n → c ≡ number_at t (i * 5 + 1) → byte_at t (i * 5) ≤ 15 → c ≤ 64 → c ≤ left → rest ≡ left - c → BlocksUpto t steps n rest (i + 1)
+  counted_on : (count : ℕ) → i < length l → count ≡ (block_row_in (get_or l i []) 0).steps → count ≤ left
+      → total (blocks_of l) + (left - count) ≡ total (blocks_of (drop (i + 1) l)) + steps
+  counted_on count h m g = omega (arith, taken h, k.counted)
+
+  pub blocks_on : (count : ℕ) → i < length l → count ≡ number_at (get_or l i []) 1 → byte_at (get_or l i []) 0 ≤ 15 → count ≤ 64 → count ≤ left
+      → BlocksUpto l steps (left - count) (i + 1)
   unfolding block_row_in
-  blocks_on c rest h e l s m er =
-      record {
-        rows = k.rows;
-        some = k.some;
-        few = k.few;
-        inside = omega arith;
-        each = upto _ i k.each (record { bounded = l; short = rw e at s });
-        counted = on c rest h e m er;
-      }
-    where
-      on : (c rest : ℕ) → i < n → c ≡ number_at t (i * 5 + 1) → c ≤ left → rest ≡ left - c
-          → total (block_rows_in t) + rest ≡ total (blocks_from t (n - (i + 1)) (i + 1)) + steps
-      on c rest h e m er = omega (arith, taken h, k.counted)
+  blocks_on count h m b s g = record { each = below_more _ i k.each (record { bounded = b; short = rw m at s }); counted = counted_on count h m g }
 
-  pub blocks_end : n ≤ i → eqb left 0 ≡ true → BlocksSound (block_rows_in t) steps
-  unfolding rows_from total
-  blocks_end h e =
-      let z : n - i ≡ 0 = omega arith in
-      let q = rw z at k.counted in
-      let l : left ≡ 0 = eqb-true left 0 e in
-      let m = rows_long (λ i. block_row_in t (i * 5)) (length t / 5) 0 in
-      record {
-        some = omega (arith, k.rows, k.some);
-        few = omega (arith, k.rows, k.few);
-        each = rows_all (λ i. block_row_in t (i * 5)) (λ i r. BlockSound r) n (length t / 5) i k.rows h k.each;
-        counted = omega arith;
-      }
+  pub blocks_sound : 0 < length l → length l ≤ 64 → length l ≤ i → i ≤ length l → left ≡ 0 → BlocksSound (blocks_of l) steps
+  unfolding total
+  blocks_sound some few h g z =
+      let m = length-map l (λ r. block_row_in r 0) in
+      let q = rw (z, add-zero, drop_all i l h) at k.counted in
+      record { some = omega arith; few = omega arith; each = each_of _ _ [] l 0 (λ j a. k.each j (omega arith)); counted = omega arith }
 
-pub ruleset block_loops = (blocks_start, blocks_inside, blocks_on, blocks_end)
+pub shape_is : (l : List (List ℕ)) (i : ℕ) → i < length l → byte_at (get_or l i []) 0 ≡ 18 → CellShape (shapes_of l) i
+unfolding shape_row_in
+shape_is l i h k =
+    let none : ShapeRow = record { kind = 0; x = 0; y = 0 } in
+    record {
+      is =
+          get_or-map (λ (r : ShapeRow). r.kind) (shapes_of l) i none 0 (omega (arith, length-map l (λ r. shape_row_in r 0)))
+          ∙ ap (λ (r : ShapeRow). r.kind) (get_or-map (λ r. shape_row_in r 0) l i [] none h) ∙ k;
+    }
 
-pub record StepsUpto (t : List ℕ) (shapes : List ShapeRow) (cells blocks n i : ℕ) : Type 0 where
-  pub rows : n ≡ length t / 8
-  pub inside : i ≤ n
-  pub each : (j : ℕ) → j < i → StepSound shapes cells blocks (byte_at t (j * 8)) (byte_at t (j * 8 + 1)) (byte_at t (j * 8 + 2)) (byte_at t (j * 8 + 3))
-
-pub steps_start : (t : List ℕ) (shapes : List ShapeRow) (cells blocks n : ℕ) → n ≡ length t / 8 → StepsUpto t shapes cells blocks n 0
-steps_start t shapes cells blocks n e = record { rows = e; inside = omega arith; each = λ j l. absurd (omega arith) }
-
-module _ (t : List ℕ) (shapes : List ShapeRow) (cells blocks n i : ℕ) (k : StepsUpto t shapes cells blocks n i) where
-  pub steps_inside : i < n → i * 8 + 8 ≤ length t
-  steps_inside h = omega (arith, k.rows)
-
-  pub steps_on : (b : Bool) → i < n
-      → (b ≡ true → StepSound shapes cells blocks (byte_at t (i * 8)) (byte_at t (i * 8 + 1)) (byte_at t (i * 8 + 2)) (byte_at t (i * 8 + 3)))
-      → b ≡ true → StepsUpto t shapes cells blocks n (i + 1)
-  steps_on b h s e = record { rows = k.rows; inside = omega arith; each = upto _ i k.each (s e) }
-
-  pub steps_end_lem : n ≤ i → StepsSound (step_rows_in t) shapes cells blocks
-  unfolding step_row_in
-  steps_end_lem h = record { each = rows_all (λ i. step_row_in t (i * 8)) _ n (length t / 8) i k.rows h k.each }
-
-pub ruleset step_loops = (steps_start, steps_inside, steps_on, steps_end_lem)
-
--- all tables
-pub vetted : (c : Label) (shapes cells blocks steps : List ℕ) (p q r b : Bool) → c.0 ≤ 14
-    → (p ≡ true → ShapesSound (shape_rows_in shapes)) → p ≡ true
-    → (q ≡ true → CellsSound (cell_rows_in cells) (shape_rows_in shapes) (length blocks / 5)) → q ≡ true
-    → (r ≡ true → BlocksSound (block_rows_in blocks) (length steps / 8)) → r ≡ true
-    → (b ≡ true → StepsSound (step_rows_in steps) (shape_rows_in shapes) (length cells / 7) (length blocks / 5)) → b ≡ true
-    → SoundTables (tables_in c shapes cells blocks steps)
-vetted c shapes cells blocks steps p q r b hc f ep g eq h er i eb =
-    let n = sym (rows_long (λ i. cell_row_in cells (i * 7)) (length cells / 7) 0) in
-    let m = sym (rows_long (λ i. block_row_in blocks (i * 5)) (length blocks / 5) 0) in
-    let k = sym (rows_long (λ i. step_row_in steps (i * 8)) (length steps / 8) 0) in
-    sound (tables_in c shapes cells blocks steps)
-    (record {
-      c = hc;
-      shapes = f ep;
-      cells = subst (CellsSound (cell_rows_in cells) (shape_rows_in shapes)) m (g eq);
-      blocks = subst (BlocksSound (block_rows_in blocks)) k (h er);
-      steps =
-          subst (λ a. StepsSound (step_rows_in steps) (shape_rows_in shapes) a (length (block_rows_in blocks))) n
-          (subst (StepsSound (step_rows_in steps) (shape_rows_in shapes) (length cells / 7)) m (i eb));
-    })
+-- all tables, each by its chunks
+pub vetted : (c : Label) (shapes cells blocks steps : List ℕ) (s k b p : List (List ℕ)) → s ≡ first_chunks 3 (length shapes / 3) shapes
+    → k ≡ first_chunks 7 (length cells / 7) cells → b ≡ first_chunks 5 (length blocks / 5) blocks → p ≡ first_chunks 8 (length steps / 8) steps
+    → c.0 ≤ 14 → ShapesSound (shapes_of s) → CellsSound (cells_of k) (shapes_of s) (length b) → BlocksSound (blocks_of b) (length p)
+    → StepsSound (steps_of p) (shapes_of s) (length k) (length b) → SoundTables (tables_in c shapes cells blocks steps)
+vetted c shapes cells blocks steps s k b p es ek eb ep hc f g h i =
+    let rs : shape_rows_in shapes ≡ shapes_of s = rw es (rows_of 3 shape_row_in shape_in shapes (length shapes / 3) 0) in
+    let rk : cell_rows_in cells ≡ cells_of k = rw ek (rows_of 7 cell_row_in cell_in cells (length cells / 7) 0) in
+    let rb : block_rows_in blocks ≡ blocks_of b = rw eb (rows_of 5 block_row_in block_in blocks (length blocks / 5) 0) in
+    let rp : step_rows_in steps ≡ steps_of p = rw ep (rows_of 8 step_row_in step_in steps (length steps / 8) 0) in
+    rw (rs, rk, rb, rp)
+    (sound (record { c = c; shapes = shapes_of s; cells = cells_of k; blocks = blocks_of b; steps = steps_of p })
+    (record { c = hc; shapes = f; cells = rw length-map g; blocks = rw length-map h; steps = rw (length-map k _, length-map b _) i }))

@@ -3,13 +3,14 @@
 --     CellShape                                   a shape row is a cell shape
 --     ShapeSound, ValueSound, CellSound, ..       a row that no refusal holds of
 --     Each, ShapesSound, CellsSound, ..           the rows of a table; their number
+--     shapes_of, cells_of, ..                     the rows of a table that is lent row by row
 -- Assumes nothing.
 use Rattle.std.specs.Prelude.{ℕ, suc, ◌<◌, ◌≤◌, ◌≡◌, true, List, [], ◌∷◌, map, eqb, length, get_or}
 use Rattle.std.specs.Prelude.{None}
 use Rattle.book.specs.Numbers.{plain_shape_kind, code_shape_kind, cell_shape_kind, put_kind, name_kind, code_kind, add_kind, new_kind, read_kind, write_kind, relabel_kind}
 use Rattle.book.specs.Numbers.{lower_kind, start_kind, exec_kind, choose_kind, plain_value, cell_value, code_value, max_label, max_register, max_shapes, max_cells, max_blocks, max_steps}
 use Rattle.book.specs.Refusals.{order_fault, count_fault, range_fault, name_fault}
-use Rattle.rows.specs.Rows.{ShapeRow, CellRow, BlockRow, StepRow, BookTables, rows, bytes_of, total}
+use Rattle.rows.specs.Rows.{ShapeRow, CellRow, BlockRow, StepRow, BookTables, shape_row_in, cell_row_in, block_row_in, step_row_in, rows, bytes_of, total}
 use Rattle.rows.specs.Write.{unknown_fault}
 
 pub record SoundTables (t : BookTables) : Type 0 where
@@ -82,3 +83,16 @@ pub record BlocksSound (l : List BlockRow) (steps : ℕ) : Type 0 where
 
 pub record StepsSound (l : List StepRow) (shapes : List ShapeRow) (cells blocks : ℕ) : Type 0 where
   pub each : Each (λ i (r : StepRow). StepSound shapes cells blocks r.kind r.x r.y r.z) 0 l
+
+-- the rows of a table that is lent row by row
+abbrev pub shapes_of : List (List ℕ) → List ShapeRow
+shapes_of l = map (λ r. shape_row_in r 0) l
+
+abbrev pub cells_of : List (List ℕ) → List CellRow
+cells_of l = map (λ r. cell_row_in r 0) l
+
+abbrev pub blocks_of : List (List ℕ) → List BlockRow
+blocks_of l = map (λ r. block_row_in r 0) l
+
+abbrev pub steps_of : List (List ℕ) → List StepRow
+steps_of l = map (λ r. step_row_in r 0) l

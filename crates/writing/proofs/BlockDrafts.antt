@@ -4,7 +4,7 @@
 --     block_lays               a block, and then its steps
 -- Assumes nothing.
 use mathlib.Core.Path.{◌≡◌, refl, sym, ap, ◌∙◌}
-use mathlib.Core.List.{List, [], ◌∷◌, ◌++◌, map, append_assoc}
+use mathlib.Core.List.{List, [], ◌∷◌, ◌++◌, map}
 use Prim.Native.Nat.{ℕ, zero, suc, ◌+◌, ◌-◌, ◌*◌, ◌/◌, ◌≤◌, ◌<◌, min}
 use native.Mathlib.Omega.{arith}
 use lib.ListN.{length, take, drop}
@@ -61,90 +61,50 @@ module _ (b t : List ℕ) where
       = drop_rows st (number_at b (i * 5 + 1)) m j ∙ ap (λ k. rows_from st (m - k) (j + k)) (sym e) in
       rw (x, y) refl
 
-  -- the blocks up to i and the step rows up to j are laid
-  pub record Blocking (n m limit : ℕ) (d₀ : List ℕ) (p₀ : Pen) (d : List ℕ) (p : Pen) (i j : ℕ) : Type 0 where
-    pub blocks : n ≡ length b / 5
-    pub steps : m ≡ length t / 8
-    pub inside : i ≤ n
-    pub taken : j ≤ m
-    pub room : 8 ≤ length d
-    pub limited : limit ≡ length d - 8
-    pub done : List Row
-    pub split : done ++ blocks_laid b t (n - i) i (m - j) j ≡ blocks_laid b t (length b / 5) 0 (length t / 8) 0
-    pub lays : Lays done d₀ p₀ d p
+  abbrev left : ℕ → ℕ → List Row
+  left i j = blocks_laid b t (length b / 5 - i) i (length t / 8 - j) j
 
-  pub blocking_start : (limit : ℕ) (d : List ℕ) (p : Pen) → 8 ≤ length d → limit ≡ length d - 8
-      → Blocking (length b / 5) (length t / 8) limit d p d p 0 0
-  blocking_start limit d p r l =
-      let x : length b / 5 - 0 ≡ length b / 5 = omega arith in
-      let y : length t / 8 - 0 ≡ length t / 8 = omega arith in
-      record {
-        blocks = refl;
-        steps = refl;
-        inside = omega arith;
-        taken = omega arith;
-        room = r;
-        limited = l;
-        done = [];
-        split = rw (x, y) refl;
-        lays = lays_none d p;
-      }
+  abbrev all_blocks : List Row
+  all_blocks = blocks_laid b t (length b / 5) 0 (length t / 8) 0
 
-  module _ (n m limit : ℕ) (d₀ : List ℕ) (p₀ : Pen) (d : List ℕ) (p : Pen) (i j : ℕ) (k : Blocking n m limit d₀ p₀ d p i j) where
-    pub blocking_inside : i < n → i * 5 + 5 ≤ length b
-    blocking_inside h = omega (arith, k.blocks)
+  -- the blocks up to i and the step rows up to j are laid: with those that are left, all are
+  pub record Blocking (d₀ : List ℕ) (p₀ : Pen) (d : List ℕ) (p : Pen) (i j : ℕ) : Type 0 where
+    pub taken : j ≤ length t / 8
+    pub on : (d' : List ℕ) (q : Pen) → Lays (left i j) d p d' q → Lays all_blocks d₀ p₀ d' q
 
-    pub blocking_room : p.at ≤ limit → p.at + 8 ≤ length d
-    blocking_room h = omega (arith, k.limited, k.room)
-
-    pub blocking_over : limit < p.at → Lays (blocks_laid b t (length b / 5) 0 (length t / 8) 0) d₀ p₀ d p
-    blocking_over h =
-        rw (← k.split)
-        (lays_then k.done (blocks_laid b t (n - i) i (m - j) j) d₀ p₀ d p d p k.lays
-        (lays_over (blocks_laid b t (n - i) i (m - j) j) d p (omega (arith, k.limited, k.room))))
+  module _ (d₀ : List ℕ) (p₀ : Pen) (d : List ℕ) (p : Pen) (i j : ℕ) (k : Blocking d₀ p₀ d p i j) where
+    pub blocking_over : length d < p.at + 8 → Lays all_blocks d₀ p₀ d p
+    blocking_over h = k.on d p (lays_over (left i j) d p h)
 
     -- where the steps of block i end
-    module _ (c u end : ℕ) (ec : c ≡ number_at b (i * 5 + 1)) (eu : u ≡ min c (m - j)) (ee : end ≡ j + u) where
-      pub blocking_taken : (j ≤ end) × (end ≤ length t / 8)
-      blocking_taken = (omega arith, omega (arith, k.taken, k.steps))
-
-      pub blocking_on : (d' : List ℕ) (q : Pen) → i < n → Lays (row_of 4 48 (byte_at b (i * 5) ∷ []) ∷ steps_laid t (end - j) j) d p d' q
-          → Blocking n m limit d₀ p₀ d' q (i + 1) end
+    module _ (c u end : ℕ) (ec : c ≡ number_at b (i * 5 + 1)) (eu : u ≡ min c (length t / 8 - j)) (ee : end ≡ j + u) where
+      pub blocking_on : (d' : List ℕ) (q : Pen) → i < length b / 5 → Lays (row_of 4 48 (byte_at b (i * 5) ∷ []) ∷ steps_laid t (end - j) j) d p d' q
+          → Blocking d₀ p₀ d' q (i + 1) end
       unfolding block_row_in
       blocking_on d' q h s =
-          let x : n - i ≡ suc (n - (i + 1)) = omega arith in
-          let r : u ≡ min (number_at b (i * 5 + 1)) (m - j) = eu ∙ ap (λ z. min z (m - j)) ec in
+          let x : length b / 5 - i ≡ suc (length b / 5 - (i + 1)) = omega arith in
+          let r : u ≡ min (number_at b (i * 5 + 1)) (length t / 8 - j) = eu ∙ ap (λ z. min z (length t / 8 - j)) ec in
           let w : end - j ≡ u = omega arith in
-          let y : (m - j) - u ≡ m - end = omega arith in
+          let y : (length t / 8 - j) - u ≡ length t / 8 - end = omega arith in
           let v : j + u ≡ end = sym ee in
           let f : suc i ≡ i + 1 = omega arith in
-          let g = s.long in
-          let rest = blocks_laid b t (n - (i + 1)) (i + 1) (m - end) end in
-          let next : blocks_laid b t (n - i) i (m - j) j ≡ row_at i ∷ (steps_laid t u j ++ rest)
-          = ap (λ z. blocks_laid b t z i (m - j) j) x ∙ next_block (n - (i + 1)) i (m - j) j u r ∙ rw (y, v, f) refl in
+          let next : left i j ≡ row_at i ∷ (steps_laid t u j ++ left (i + 1) end)
+          = ap (λ z. blocks_laid b t z i (length t / 8 - j) j) x ∙ next_block (length b / 5 - (i + 1)) i (length t / 8 - j) j u r ∙ rw (y, v, f) refl in
           let both : Lays (row_at i ∷ steps_laid t u j) d p d' q = rw w at s in
           record {
-            blocks = k.blocks;
-            steps = k.steps;
-            inside = omega arith;
             taken = omega (arith, k.taken);
-            room = omega (arith, k.room);
-            limited = k.limited ∙ omega arith;
-            done = k.done ++ (row_at i ∷ steps_laid t u j);
-            split = append_assoc k.done (row_at i ∷ steps_laid t u j) rest ∙ ap (λ (z : List Row). k.done ++ z) (sym next) ∙ k.split;
-            lays = lays_then k.done (row_at i ∷ steps_laid t u j) d₀ p₀ d p d' q k.lays both;
+            on = λ d'' z l. k.on d'' z (rw next (lays_then (row_at i ∷ steps_laid t u j) (left (i + 1) end) d p d' q d'' z both l));
           }
 
-    pub blocking_end : (d' : List ℕ) (q : Pen) → n ≤ i → Lays (steps_laid t (m - j) j) d p d' q
-        → Lays (blocks_laid b t (length b / 5) 0 (length t / 8) 0) d₀ p₀ d' q
+    pub blocking_end : (d' : List ℕ) (q : Pen) → length b / 5 ≤ i → Lays (steps_laid t (length t / 8 - j) j) d p d' q → Lays all_blocks d₀ p₀ d' q
     blocking_end d' q h s =
-        let x : n - i ≡ 0 = omega arith in
-        let e : blocks_laid b t (n - i) i (m - j) j ≡ steps_laid t (m - j) j = ap (λ z. blocks_laid b t z i (m - j) j) x ∙ none_left i (m - j) j in
-        rw (← k.split, e) (lays_then k.done (steps_laid t (m - j) j) d₀ p₀ d p d' q k.lays s)
+        let x : length b / 5 - i ≡ 0 = omega arith in
+        let e : left i j ≡ steps_laid t (length t / 8 - j) j = ap (λ z. blocks_laid b t z i (length t / 8 - j) j) x ∙ none_left i (length t / 8 - j) j in
+        k.on d' q (rw e s)
 
-    pub blocking_done : n ≤ i → j ≡ m → Lays (blocks_laid b t (length b / 5) 0 (length t / 8) 0) d₀ p₀ d p
+    pub blocking_done : length b / 5 ≤ i → j ≡ length t / 8 → Lays all_blocks d₀ p₀ d p
     unfolding steps_laid rows_from
-    blocking_done h e = let z : m - j ≡ 0 = omega arith in blocking_end d p h (rw z (lays_none d p))
+    blocking_done h e = let z : length t / 8 - j ≡ 0 = omega arith in blocking_end d p h (rw z (lays_none d p))
 
 -- a block, and then its steps
 pub block_lays : (bound : ℕ) (ss : List Row) (d : List ℕ) (p : Pen) (e : Entry) (d₁ : List ℕ) (p₁ : Pen) (d₂ : List ℕ) (p₂ : Pen)
@@ -153,4 +113,4 @@ pub block_lays : (bound : ℕ) (ss : List Row) (d : List ℕ) (p : Pen) (e : Ent
 block_lays bound ss d p e d₁ p₁ d₂ p₂ en room ed ep h =
     lays_then (row_of 4 48 (bound ∷ []) ∷ []) ss d p d₁ p₁ d₂ p₂ (lays_row (row_of 4 48 (bound ∷ [])) d p e en room d₁ p₁ ed ep) h
 
-pub ruleset blockings = (blocking_inside, blocking_room, blocking_over, blocking_taken, blocking_on, blocking_end, blocking_done)
+pub ruleset blockings = (blocking_on, blocking_end, blocking_done)

@@ -1,45 +1,38 @@
 -- Laws of rows laid one after the other into a draft.
 --     notes                          the first fault, with one row more
---     pen_is, put_long               the pen past a row; a draft keeps its length
 --     lays_none, .., lays_row        no row; any once the draft is full; some and then others; one
---     rows_split                     the rows of a table in two parts
---     Laying, layings                a loop over rows from a to b of a table: those up to i are laid
+--     steps_none, steps_on, steps_over     a loop over step rows: those up to i are laid
+--     each_none, each_on, each_over        a loop over rows by an entry for each index
 -- Assumes nothing.
 use mathlib.Core.Path.{◌≡◌, refl, sym, ap, ◌∙◌}
 use mathlib.Core.Bool.{Bool, true, false, not}
 use mathlib.Core.List.{List, [], ◌∷◌, ◌++◌, append_assoc, append-nil}
-use Prim.Native.Nat.{ℕ, zero, suc, ◌+◌, ◌-◌, ◌*◌, ◌/◌, ◌≤◌, ◌<◌}
+use Prim.Native.Nat.{ℕ, zero, suc, ◌+◌, ◌-◌, ◌*◌, ◌≤◌, ◌<◌}
 use native.Mathlib.Omega.{arith}
-use lib.ListN.{length, take, drop, get_or, set, length-set, length-append, length-drop}
-use native.Mathlib.Numerals.{add-one, add-two, add-three}
-use lib.Seq.{sets-eq, take_at, drop-append-add, drop-drop, length-take-le, take-append-add, take-append-le}
+use lib.ListN.{length, take, drop, length-append, length-drop}
+use lib.Seq.{length-take-le, take-append-add, take-append-le}
 use Rattle.book.specs.Missing.{Fault}
 use Rattle.std.specs.Prelude.{None, Some}
+use Rattle.std.specs.Option.{option_or}
 use Rattle.book.proofs.Spans.{packed_join}
 use Rattle.records.specs.Copies.{put_at}
 use Rattle.writing.specs.declared.entries.Entry.{Entry}
 use Rattle.writing.specs.declared.laying.Pen.{Pen}
-use Rattle.rows.specs.Rows.{Row, shape_row, cell_row, step_row, shape_row_in, cell_row_in, step_row_in, rows_from, packed_rows}
+use Rattle.rows.specs.Rows.{Row, step_row, step_row_in, rows_from, packed_rows}
 use Rattle.rows.specs.Write.{first_row}
-use Rattle.writing.specs.Asked.{Enters, noted, penned, Laid, Lays, shapes_laid, cells_laid, steps_laid}
+use Rattle.writing.specs.Asked.{Enters, noted, penned, Laid, Lays, LaysEach, steps_laid}
 
-pub note_kept : (f : Fault) (o : ℕ) (bad : Bool) (at : ℕ) → f ≡ Some o → Some o ≡ noted f bad at
+pub note_bad : (f : Fault) (bad : Bool) (at : ℕ) (r : Fault) → r ≡ option_or f (Some at) → bad ≡ true → r ≡ noted f bad at
 unfolding noted
-note_kept f o bad at e = simp e
+note_bad None bad at r e h = simp h e
+note_bad (Some o) bad at r e h = e
 
-pub note_new : (f : Fault) (bad : Bool) (at : ℕ) → f ≡ None → bad ≡ true → Some at ≡ noted f bad at
+pub note_good : (f : Fault) (bad : Bool) (at : ℕ) → bad ≡ false → f ≡ noted f bad at
 unfolding noted
-note_new f bad at e h = simp (e, h)
+note_good None bad at h = simp h
+note_good (Some o) bad at h = refl
 
-pub note_none : (f : Fault) (bad : Bool) (at : ℕ) → f ≡ None → bad ≡ false → None ≡ noted f bad at
-unfolding noted
-note_none f bad at e h = simp (e, h)
-
-pub ruleset notes = (note_kept, note_new, note_none)
-
-pub pen_is : (p : Pen) (e : Entry) (s t : Fault) → s ≡ noted p.strange (not e.known) p.at → t ≡ noted p.spare e.spare p.at
-    → record { at = p.at + e.length; strange = s; spare = t } ≡ penned p e
-pen_is p e s t es et = rw (es, et) refl
+pub ruleset notes = (note_bad, note_good)
 
 -- where a list was put at an index, with room for it
 module _ (d : List ℕ) (at : ℕ) (s : List ℕ) (h : at + length s ≤ length d) where
@@ -57,53 +50,6 @@ module _ (d : List ℕ) (at : ℕ) (s : List ℕ) (h : at + length s ≤ length 
 
   pub put_long : length (put_at d at s) ≡ length d
   put_long = length-append (take at d ++ s) (drop (at + length s) d) ∙ omega (arith, head, length-drop (at + length s) d)
-
--- eight bytes, stored one after the other
-eight : (b : List ℕ) → length b ≡ 8
-    → b ≡ get_or b 0 0 ∷ get_or b 1 0 ∷ get_or b 2 0 ∷ get_or b 3 0 ∷ get_or b 4 0 ∷ get_or b 5 0 ∷ get_or b 6 0 ∷ get_or b 7 0 ∷ []
-eight (b0 ∷ b1 ∷ b2 ∷ b3 ∷ b4 ∷ b5 ∷ b6 ∷ b7 ∷ []) h = refl
-eight [] h = absurd (omega arith)
-eight (b0 ∷ []) h = absurd (omega arith)
-eight (b0 ∷ b1 ∷ []) h = absurd (omega arith)
-eight (b0 ∷ b1 ∷ b2 ∷ []) h = absurd (omega arith)
-eight (b0 ∷ b1 ∷ b2 ∷ b3 ∷ []) h = absurd (omega arith)
-eight (b0 ∷ b1 ∷ b2 ∷ b3 ∷ b4 ∷ []) h = absurd (omega arith)
-eight (b0 ∷ b1 ∷ b2 ∷ b3 ∷ b4 ∷ b5 ∷ []) h = absurd (omega arith)
-eight (b0 ∷ b1 ∷ b2 ∷ b3 ∷ b4 ∷ b5 ∷ b6 ∷ []) h = absurd (omega arith)
-eight (b0 ∷ b1 ∷ b2 ∷ b3 ∷ b4 ∷ b5 ∷ b6 ∷ b7 ∷ b8 ∷ bs) h = absurd (omega arith)
-
-pub second_inside : (d : List ℕ) (at x : ℕ) → at + 4 ≤ length d → at + 1 < length (set d at x)
-second_inside d at x h = omega (arith, length-set d at x)
-
-pub third_inside : (d : List ℕ) (at x y : ℕ) → at + 4 ≤ length d → at + 2 < length (set (set d at x) (at + 1) y)
-third_inside d at x y h = omega (arith, length-set d at x, length-set (set d at x) (at + 1) y)
-
-pub fourth_inside : (d : List ℕ) (at x y z : ℕ) → at + 4 ≤ length d → at + 3 < length (set (set (set d at x) (at + 1) y) (at + 2) z)
-fourth_inside d at x y z h = omega (arith, length-set d at x, length-set (set d at x) (at + 1) y, length-set (set (set d at x) (at + 1) y) (at + 2) z)
-
-pub put_four : (d : List ℕ) (at x y z w : ℕ) → at + 4 ≤ length d
-    → set (set (set (set d at x) (at + 1) y) (at + 2) z) (at + 3) w ≡ put_at d at (x ∷ y ∷ z ∷ w ∷ [])
-put_four d at x y z w h = rw (add-one, add-two, add-three) (sets-eq (x ∷ y ∷ z ∷ w ∷ []) d at (omega arith))
-
--- a list put behind another
-put_twice : (d : List ℕ) (at : ℕ) (s t : List ℕ) → at + (length s + length t) ≤ length d → put_at (put_at d at s) (at + length s) t ≡ put_at d at (s ++ t)
-put_twice d at s t h =
-    let l : at + length s ≤ length d = omega arith in
-    let front : take (at + length s) (put_at d at s) ≡ take at d ++ s = take_at (take at d ++ s) (drop (at + length s) d) (at + length s) (head d at s l) in
-    let e : at + length s + length t ≡ length (take at d ++ s) + length t = ap (λ n. n + length t) (sym (head d at s l)) in
-    let back : drop (at + length s + length t) (put_at d at s) ≡ drop (at + length s + length t) d
-    = ap (λ n. drop n (put_at d at s)) e ∙ drop-append-add (take at d ++ s) (drop (at + length s) d) (length t) ∙ drop-drop (length t) (at + length s) d in
-    let n : at + length s + length t ≡ at + length (s ++ t) = omega (arith, length-append s t) in
-    rw (front, back, n) (ap (λ (l : List ℕ). l ++ drop (at + length (s ++ t)) d) (append_assoc (take at d) s t))
-
-pub put_eight : (d d₁ d₂ : List ℕ) (at : ℕ) (b : List ℕ) → at + 8 ≤ length d → length b ≡ 8
-    → d₁ ≡ put_at d at (get_or b 0 0 ∷ get_or b 1 0 ∷ get_or b 2 0 ∷ get_or b 3 0 ∷ [])
-    → d₂ ≡ put_at d₁ (at + 4) (get_or b 4 0 ∷ get_or b 5 0 ∷ get_or b 6 0 ∷ get_or b 7 0 ∷ [])
-    → d₂ ≡ put_at d at b
-put_eight d d₁ d₂ at b h e p q =
-    q ∙ rw p
-    (put_twice d at (get_or b 0 0 ∷ get_or b 1 0 ∷ get_or b 2 0 ∷ get_or b 3 0 ∷ []) (get_or b 4 0 ∷ get_or b 5 0 ∷ get_or b 6 0 ∷ get_or b 7 0 ∷ []) (omega arith)
-    ∙ ap (put_at d at) (sym (eight b e)))
 
 -- the first row at fault, with one more
 first_more : (bad : Row → Bool) (o : ℕ) (rs : List Row) (r : Row)
@@ -186,105 +132,62 @@ module _ {A : Type 0} (f : ℕ → A) where
       let y : suc n + m ≡ suc (n + m) = omega arith in
       rw y (ap (λ (l : List A). f a ∷ l) (rows_split n m (suc a) ∙ ap (λ i. rows_from f n (suc a) ++ rows_from f m i) z))
 
--- a loop over the rows from a to b of a table: those up to i are laid
-module _ (f : ℕ → Row) (a b limit : ℕ) (d₀ : List ℕ) (p₀ : Pen) where
-  pub record Laying (d : List ℕ) (p : Pen) (i : ℕ) : Type 0 where
-    pub from : a ≤ i
-    pub inside : i ≤ b
-    pub room : 8 ≤ length d
-    pub limited : limit ≡ length d - 8
-    pub lays : Lays (rows_from f (i - a) a) d₀ p₀ d p
-
-  pub laying_start : a ≤ b → 8 ≤ length d₀ → limit ≡ length d₀ - 8 → Laying d₀ p₀ a
+-- rows from a on, of which those up to i are laid, into a draft with a limit
+module _ (f : ℕ → Row) (a i : ℕ) (d₀ : List ℕ) (p₀ : Pen) (d : List ℕ) (p : Pen) (k : Lays (rows_from f (i - a) a) d₀ p₀ d p) (h : a ≤ i) where
+  pub laying_on : (e : Entry) (d' : List ℕ) (q : Pen) → p.at + 8 ≤ length d → Enters e (f i) → d' ≡ put_at d p.at e.bytes → q ≡ penned p e
+      → Lays (rows_from f (i + 1 - a) a) d₀ p₀ d' q
   unfolding rows_from
-  laying_start h r l =
-      let z : a - a ≡ 0 = omega arith in
-      record { from = omega arith; inside = h; room = r; limited = l; lays = rw z (lays_none d₀ p₀) }
+  laying_on e d' q room en ed eq =
+      let x : i + 1 - a ≡ (i - a) + 1 = omega arith in
+      let y : a + (i - a) ≡ i = omega arith in
+      rw (x, rows_split f (i - a) 1 a, y) (lays_then (rows_from f (i - a) a) (f i ∷ []) d₀ p₀ d p d' q k (lays_row (f i) d p e en room d' q ed eq))
 
-  module _ (d : List ℕ) (p : Pen) (i : ℕ) (k : Laying d p i) where
-    pub laying_room : p.at ≤ limit → p.at + 8 ≤ length d
-    laying_room h = omega (arith, k.limited, k.room)
+  pub laying_over : (b : ℕ) → i ≤ b → length d < p.at + 8 → Lays (rows_from f (b - a) a) d₀ p₀ d p
+  laying_over b l full =
+      let x : b - a ≡ (i - a) + (b - i) = omega arith in
+      rw (x, rows_split f (i - a) (b - i) a)
+      (lays_then (rows_from f (i - a) a) (rows_from f (b - i) (a + (i - a))) d₀ p₀ d p d p k (lays_over (rows_from f (b - i) (a + (i - a))) d p full))
 
-    pub laying_on : (e : Entry) (d' : List ℕ) (q : Pen) → i < b → p.at ≤ limit → Enters e (f i) → d' ≡ put_at d p.at e.bytes → q ≡ penned p e
-        → Laying d' q (i + 1)
-    unfolding rows_from
-    laying_on e d' q h l en ed eq =
-        let one = lays_row (f i) d p e en (laying_room l) d' q ed eq in
-        let g : length d' ≡ length d = one.long in
-        let x : (i + 1) - a ≡ (i - a) + 1 = omega (arith, k.from) in
-        let y : a + (i - a) ≡ i = omega (arith, k.from) in
-        let both = lays_then (rows_from f (i - a) a) (f i ∷ []) d₀ p₀ d p d' q k.lays one in
+module _ (t : List ℕ) (a : ℕ) where
+  pub steps_none : (d : List ℕ) (p : Pen) → Lays (steps_laid t (a - a) a) d p d p
+  unfolding steps_laid rows_from
+  steps_none d p = let z : a - a ≡ 0 = omega arith in rw z (lays_none d p)
+
+  module _ (i : ℕ) (d₀ : List ℕ) (p₀ : Pen) (d : List ℕ) (p : Pen) (k : Lays (steps_laid t (i - a) a) d₀ p₀ d p) (h : a ≤ i) where
+    pub steps_on : (e : Entry) (d' : List ℕ) (q : Pen) → p.at + 8 ≤ length d → Enters e (step_row (step_row_in t (i * 8)))
+        → d' ≡ put_at d p.at e.bytes → q ≡ penned p e → Lays (steps_laid t (i + 1 - a) a) d₀ p₀ d' q
+    unfolding steps_laid
+    steps_on e d' q room en ed eq = laying_on _ a i d₀ p₀ d p k h e d' q room en ed eq
+
+    pub steps_over : (b : ℕ) → i ≤ b → length d < p.at + 8 → Lays (steps_laid t (b - a) a) d₀ p₀ d p
+    unfolding steps_laid
+    steps_over b l full = laying_over _ a i d₀ p₀ d p k h b l full
+
+-- the same of entries for each index
+module _ (gives : ℕ → Entry → Type 0) where
+  pub each_none : (d : List ℕ) (p : Pen) → LaysEach gives 0 d p d p
+  unfolding rows_from
+  each_none d p = record { laid = λ f h. lays_none d p }
+
+  module _ (i : ℕ) (d₀ : List ℕ) (p₀ : Pen) (d : List ℕ) (p : Pen) (k : LaysEach gives i d₀ p₀ d p) where
+    so_far : (f : ℕ → Row) → ((j : ℕ) (e : Entry) → j < i → gives j e → Enters e (f j)) → Lays (rows_from f (i - 0) 0) d₀ p₀ d p
+    so_far f h = let z : i - 0 ≡ i = omega arith in rw z (k.laid f h)
+
+    pub each_on : (e : Entry) → gives i e → (d' : List ℕ) (q : Pen) → p.at + 8 ≤ length d → d' ≡ put_at d p.at e.bytes → q ≡ penned p e
+        → LaysEach gives (i + 1) d₀ p₀ d' q
+    each_on e g d' q room ed eq =
         record {
-          from = omega (arith, k.from);
-          inside = omega arith;
-          room = omega (arith, k.room);
-          limited = k.limited ∙ omega arith;
-          lays = rw (x, rows_split f (i - a) 1 a, y) both;
+          laid = λ f h.
+              let z : i + 1 - 0 ≡ i + 1 = omega arith in
+              let so = so_far f (λ j x l. h j x (omega arith)) in
+              rw z at (laying_on f 0 i d₀ p₀ d p so (omega arith) e d' q room (h i e (omega arith) g) ed eq);
         }
 
-    pub laying_end : b ≤ i → Lays (rows_from f (b - a) a) d₀ p₀ d p
-    laying_end h = let e : i ≡ b = omega (arith, k.inside) in rw e at k.lays
-
-    pub laying_over : limit < p.at → Lays (rows_from f (b - a) a) d₀ p₀ d p
-    laying_over h =
-        let x : b - a ≡ (i - a) + (b - i) = omega (arith, k.from, k.inside) in
-        rw (x, rows_split f (i - a) (b - i) a)
-        (lays_then (rows_from f (i - a) a) (rows_from f (b - i) (a + (i - a))) d₀ p₀ d p d p k.lays
-        (lays_over (rows_from f (b - i) (a + (i - a))) d p (omega (arith, k.limited, k.room))))
-
--- the whole table; f is its rows
-module _ (f : ℕ → Row) (m n limit : ℕ) (d₀ : List ℕ) (p₀ : Pen) (d : List ℕ) (p : Pen) (i : ℕ) (e : n ≡ m) (k : Laying f 0 n limit d₀ p₀ d p i) where
-  whole : Lays (rows_from f (n - 0) 0) d₀ p₀ d p → Lays (rows_from f m 0) d₀ p₀ d p
-  whole h = let z : n - 0 ≡ m = omega arith in rw z at h
-
-  end : n ≤ i → Lays (rows_from f m 0) d₀ p₀ d p
-  end h = whole (laying_end f 0 n limit d₀ p₀ d p i k h)
-
-  over : limit < p.at → Lays (rows_from f m 0) d₀ p₀ d p
-  over h = whole (laying_over f 0 n limit d₀ p₀ d p i k h)
-
-module _ (t : List ℕ) (n limit : ℕ) (d₀ : List ℕ) (p₀ : Pen) (d : List ℕ) (p : Pen) (i : ℕ) where
-  module _ (e : n ≡ length t / 3) (k : Laying (λ i. shape_row (shape_row_in t (i * 3))) 0 n limit d₀ p₀ d p i) where
-    pub shapes_inside : i < n → i * 3 + 3 ≤ length t
-    shapes_inside h = omega arith
-
-    pub shapes_end : n ≤ i → Lays (shapes_laid t (length t / 3) 0) d₀ p₀ d p
-    unfolding shapes_laid
-    shapes_end h = end _ _ n limit d₀ p₀ d p i e k h
-
-    pub shapes_over : limit < p.at → Lays (shapes_laid t (length t / 3) 0) d₀ p₀ d p
-    unfolding shapes_laid
-    shapes_over h = over _ _ n limit d₀ p₀ d p i e k h
-
-  module _ (e : n ≡ length t / 7) (k : Laying (λ i. cell_row (cell_row_in t (i * 7))) 0 n limit d₀ p₀ d p i) where
-    pub cells_inside : i < n → i * 7 + 7 ≤ length t
-    cells_inside h = omega arith
-
-    pub cells_end : n ≤ i → Lays (cells_laid t (length t / 7) 0) d₀ p₀ d p
-    unfolding cells_laid
-    cells_end h = end _ _ n limit d₀ p₀ d p i e k h
-
-    pub cells_over : limit < p.at → Lays (cells_laid t (length t / 7) 0) d₀ p₀ d p
-    unfolding cells_laid
-    cells_over h = over _ _ n limit d₀ p₀ d p i e k h
-
-module _ (t : List ℕ) (a b limit : ℕ) (d₀ : List ℕ) (p₀ : Pen) (d : List ℕ) (p : Pen) (i : ℕ)
-    (k : Laying (λ i. step_row (step_row_in t (i * 8))) a b limit d₀ p₀ d p i) where
-  pub steps_inside : b ≤ length t / 8 → i < b → i * 8 + 8 ≤ length t
-  steps_inside e h = omega arith
-
-  pub steps_end_lem : b ≤ i → Lays (steps_laid t (b - a) a) d₀ p₀ d p
-  unfolding steps_laid
-  steps_end_lem h = laying_end _ a b limit d₀ p₀ d p i k h
-
-  pub steps_over : limit < p.at → Lays (steps_laid t (b - a) a) d₀ p₀ d p
-  unfolding steps_laid
-  steps_over h = laying_over _ a b limit d₀ p₀ d p i k h
-
-pub ruleset layings = (laying_room, laying_on)
-
-pub ruleset shape_layings = (layings, shapes_inside, shapes_end, shapes_over)
-
-pub ruleset cell_layings = (layings, cells_inside, cells_end, cells_over)
-
-pub ruleset step_layings = (layings, steps_inside, steps_end_lem, steps_over)
+    pub each_over : (n : ℕ) → i ≤ n → length d < p.at + 8 → LaysEach gives n d₀ p₀ d p
+    each_over n l full =
+        record {
+          laid = λ f h.
+              let z : n - 0 ≡ n = omega arith in
+              let so = so_far f (λ j x m. h j x (omega arith)) in
+              rw z at (laying_over f 0 i d₀ p₀ d p so (omega arith) n l full);
+        }

@@ -1,8 +1,8 @@
 -- Laws of what the writer answers.
---     joins, earliers     a refusal with the first spare field
+--     join_none, .., by_five, earliers     a refusal with the first spare field
 --     judge_is            refusals 3 to 6, by the reader's
 --     unsound_whole, .., unsound_vetted     refusals 2 to 6
---     delivers            what goes into the buffer
+--     deliver_refused, ..     what goes into the buffer
 --     finish_is, too_long     the whole answer, from a draft; refusal 1
 -- Assumes nothing.
 use mathlib.Core.Path.{◌≡◌, refl, sym, ap, ◌∙◌}
@@ -14,19 +14,21 @@ use lib.Dec.{eqb, ltb}
 use lib.ListN.{length}
 use borrow.Author.Tests.{ne_eqb, lt-ltb, le-ltb}
 use Rattle.book.specs.Missing.{Fault}
-use Rattle.std.specs.Prelude.{None, Some}
-use Rattle.book.specs.declared.Refusal.{Refusal}
-use Rattle.book.specs.declared.Refusal.TheVariants.{Passed, Refused}
-use Rattle.book.specs.declared.Reading.{Reading}
+use Rattle.std.specs.Prelude.{None, Some, Ok, Err}
+use Rattle.std.specs.Result.{result_and}
+use Rattle.book.specs.declared.Outline.{Outline}
+use Rattle.book.specs.declared.Refused as D
+use Rattle.book.specs.declared.Ground.TheVariants.{LongBook, Cut, OutOfRange, ShortBuffer}
+use Rattle.book.specs.Outcome.{Refusal, Passed, Refused, Given, ground_number, outcome}
+use Rattle.book.specs.Outline.{Reading}
 use Rattle.book.specs.Control.{when◌then◌else◌}
 use Rattle.book.specs.Refusals.{cut_fault, order_fault, count_fault, range_fault, name_fault, or_refuse, unreadable}
-use Rattle.book.specs.Outline.{reading_of, reading}
+use Rattle.book.specs.Outline.{reading_of, read_by, reading}
 use Rattle.records.specs.Copies.{put_at}
 use Rattle.rows.specs.Rows.{BookTables, rows, bytes_of, total}
-use Rattle.rows.specs.Write.{unknown_fault, spare_fault, earlier, unwritable, WriteResult, written_of, written}
+use Rattle.rows.specs.Write.{unknown_fault, spare_fault, earlier, unwritable, WriteResult, write_by, written_of, written}
 use Rattle.rows.proofs.Packs.{known_whole}
 use Rattle.vetting.specs.Asked.{SoundTables}
-use Rattle.writing.specs.declared.Written.{Written}
 use Rattle.writing.specs.declared.laying.Pen.{Pen}
 use Rattle.writing.specs.Asked.{Drafted, earlier_of, joined, judged, unsound, roomed}
 
@@ -53,7 +55,9 @@ module _ (r : Refusal) (f : Fault) where
       unfolding joined
       join_behind x l q = rw (h, e, q) (simp (le-ltb n 5 l))
 
-pub ruleset joins = (join_none, join_passed, join_before, join_behind)
+-- refusal 5 as it is handed out
+pub by_five : (r : Refusal) (e : D.Refused) (p : ℕ) → e ≡ record { why = OutOfRange; place = p } → Refused 5 p ≡ r → Refused (ground_number e.why) e.place ≡ r
+by_five r e p q h = ap (λ (e : D.Refused). Refused (ground_number e.why) e.place) q ∙ h
 
 module _ (n p o : ℕ) where
   pub earlier_first : n ≡ 5 → p < o → p ≡ earlier_of n p o
@@ -91,12 +95,17 @@ unfolding reading_of
 read_refusal Passed s = refl
 read_refusal (Refused n o) s = refl
 
-pub judge_is : (s : List ℕ) (f : Fault) (x : Reading) (r : Refusal) → length s ≤ 32768 → cut_fault s ≡ None → x ≡ reading s → r ≡ joined x.refusal f
-    → r ≡ judged s f
+same_refusal : (x : Given Outline) → outcome (result_and x (Ok (tt {0}))) ≡ outcome x
+same_refusal (Ok t) = refl
+same_refusal (Err e) = refl
+
+-- r is what the judge gives, q what stands for the reader's refusal
+pub judge_is : (s : List ℕ) (f : Fault) (x : Given Outline) (q : Given (Unit {0})) (r : Given (Unit {0})) → length s ≤ 32768 → cut_fault s ≡ None
+    → read_by x ≡ reading s → q ≡ result_and x (Ok (tt {0})) → outcome r ≡ joined (outcome q) f → outcome r ≡ judged s f
 unfolding judged
-judge_is s f x r l c e er =
+judge_is s f x q r l c e eq er =
     let u : unreadable s ≡ or_refuse 3 (order_fault s) (or_refuse 4 (count_fault s) (or_refuse 5 (range_fault s) (or_refuse 6 (name_fault s) Passed))) = readable_so s l c in
-    er ∙ ap (λ q. joined q f) (ap (λ (y : Reading). y.refusal) e ∙ read_refusal (unreadable s) s ∙ u)
+    er ∙ ap (λ q. joined q f) (ap outcome eq ∙ same_refusal x ∙ ap (λ (y : Reading). y.refusal) e ∙ read_refusal (unreadable s) s ∙ u)
     ∙ by_reader (order_fault s) (count_fault s) (range_fault s) (name_fault s) f
 
 -- refusals 2 to 6 of tables, from their draft
@@ -105,17 +114,18 @@ module _ (t : BookTables) (s : List ℕ) (p : Pen) (k : Drafted t s p) where
   unsound_whole e = (k.short, rw k.bytes (known_whole t (sym k.strange ∙ e)))
 
   module _ (b : Bool) (e : b ≡ eqb (total t.blocks) (length t.steps)) where
-    pub unsound_counts : b ≡ false → Refused 2 0 ≡ unsound t
+    pub unsound_counts : b ≡ false → (r : D.Refused) → r ≡ record { why = Cut; place = 0 } → Refused (ground_number r.why) r.place ≡ unsound t
     unfolding unsound
-    unsound_counts h = let z : eqb (total t.blocks) (length t.steps) ≡ false = sym e ∙ h in simp z
+    unsound_counts h r q = let z : eqb (total t.blocks) (length t.steps) ≡ false = sym e ∙ h in rw q (simp z)
 
     module _ (h : b ≡ true) where
-      pub unsound_strange : (o : ℕ) → p.strange ≡ Some o → Refused 2 o ≡ unsound t
+      pub unsound_strange : (o : ℕ) → p.strange ≡ Some o → (r : D.Refused) → r ≡ record { why = Cut; place = o }
+          → Refused (ground_number r.why) r.place ≡ unsound t
       unfolding unsound or_refuse
-      unsound_strange o f =
+      unsound_strange o f r q =
           let z : eqb (total t.blocks) (length t.steps) ≡ true = sym e ∙ h in
           let y : unknown_fault (rows t) ≡ Some o = sym k.strange ∙ f in
-          simp (z, y)
+          rw q (simp (z, y))
 
       pub unsound_judged : p.strange ≡ None → (r : Refusal) → r ≡ judged s p.spare → r ≡ unsound t
       unfolding unsound or_refuse
@@ -134,24 +144,23 @@ module _ (t : BookTables) (s : List ℕ) (p : Pen) (k : Drafted t s p) where
       er ∙ x ∙ ap (λ f. or_refuse 5 (earlier f None) Passed) k.spare
       ∙ sym (rw (v.counted, v.known, v.ordered, v.few, v.narrow, v.named) refl)
 
--- what goes into the buffer; q is the refusal before 13
-module _ (q : Refusal) (s out : List ℕ) where
-  pub deliver_refused : (n o : ℕ) (w : Written) → q ≡ Refused n o → w ≡ record { refusal = Refused n o; length = 0 }
-      → ◌≡◌ {A = WriteResult} (record { refusal = w.refusal; length = w.length; out = out }) (written_of (roomed q (length s) (length out)) s out)
+-- what goes into the buffer; q is the refusal before 13, w what is given
+module _ (q : Given (Unit {0})) (s out : List ℕ) where
+  pub deliver_refused : (w : Given ℕ) (e : D.Refused) → w ≡ Err e → q ≡ Err e
+      → write_by w out ≡ written_of (roomed (outcome q) (length s) (length out)) s out
   unfolding roomed written_of
-  deliver_refused n o w e f = rw (e, f) refl
+  deliver_refused w e ew f = rw (ew, f) refl
 
-  pub deliver_short : (w : Written) → q ≡ Passed → length out < length s → w ≡ record { refusal = Refused 13 0; length = 0 }
-      → ◌≡◌ {A = WriteResult} (record { refusal = w.refusal; length = w.length; out = out }) (written_of (roomed q (length s) (length out)) s out)
-  unfolding roomed written_of
-  deliver_short w e l f = rw (e, f, lt-ltb (length out) (length s) l) refl
+  module _ (u : Unit {0}) (p : q ≡ Ok u) where
+    pub deliver_short : (e : D.Refused) → length out < length s → e ≡ record { why = ShortBuffer; place = 0 }
+        → write_by (Err e) out ≡ written_of (roomed (outcome q) (length s) (length out)) s out
+    unfolding roomed written_of
+    deliver_short e l f = rw (p, f, lt-ltb (length out) (length s) l) refl
 
-  pub deliver_done : (out' : List ℕ) → q ≡ Passed → length s ≤ length out → out' ≡ put_at out 0 s
-      → ◌≡◌ {A = WriteResult} (record { refusal = Passed; length = length s; out = out' }) (written_of (roomed q (length s) (length out)) s out)
-  unfolding roomed written_of
-  deliver_done out' e l f = let z : 0 + length s ≡ length s = omega arith in rw (e, f, le-ltb (length out) (length s) l, z) refl
-
-pub ruleset delivers = (deliver_refused, deliver_short, deliver_done)
+    pub deliver_done : (out' : List ℕ) → length s ≤ length out → out' ≡ put_at out 0 s
+        → write_by (Ok (length s)) out' ≡ written_of (roomed (outcome q) (length s) (length out)) s out
+    unfolding roomed written_of
+    deliver_done out' l f = let z : 0 + length s ≡ length s = omega arith in rw (p, f, le-ltb (length out) (length s) l, z) refl
 
 -- 13 after 6
 room_last : (e : Bool) (u a b c d : Fault) (size room : ℕ)
@@ -181,7 +190,7 @@ module _ (t : BookTables) where
       let l : length (bytes_of t) ≤ 32768 = rw k.bytes at k.short in
       h ∙ rw (k.bytes, e, room_is (length out) l) refl
 
-  pub too_long : (out : List ℕ) (w : Written) → 32768 < length (bytes_of t) → w ≡ record { refusal = Refused 1 0; length = 0 }
-      → ◌≡◌ {A = WriteResult} (record { refusal = w.refusal; length = w.length; out = out }) (written t out)
+  pub too_long : (out out' : List ℕ) → out' ≡ out → (e : D.Refused) → 32768 < length (bytes_of t) → e ≡ record { why = LongBook; place = 0 }
+      → write_by (Err e) out' ≡ written t out
   unfolding unwritable written_of
-  too_long out w l e = rw (e, lt-ltb 32768 (length (bytes_of t)) l) refl
+  too_long out out' same w l e = rw (same, e, lt-ltb 32768 (length (bytes_of t)) l) refl

@@ -4,3 +4,4 @@ pub mod Drafts
 pub mod BlockDrafts
 pub mod Judged
 pub mod Wholes
+pub mod Copies

@@ -3,23 +3,23 @@
 --     behind                        a spare field of a step
 --     noted, penned, clear_pen       a fault found so far, with one row more; the pen past a row, and before the first
 --     Laid, Lays                    of all rows some are done; rows laid into a draft
---     shapes_laid, .., blocks_laid    the rows of each table
+--     LaysEach                      rows laid by an entry for each index
+--     steps_laid, blocks_laid         the rows of the steps, and of the blocks with their steps
 --     Drafted                       a draft of all rows
 --     earlier_of, joined             a refusal with the first spare field
 --     judged, unsound               refusals 3 to 6, and 2 to 6
 --     roomed                        with 13
 -- Assumes nothing.
-use Rattle.std.specs.Prelude.{ℕ, ◌+◌, ◌*◌, ◌≤◌, min, ◌≡◌, Bool, true, false, not, List, ◌++◌, eqb, ltb, length, take}
+use Rattle.std.specs.Prelude.{ℕ, ◌+◌, ◌*◌, ◌≤◌, ◌<◌, min, ◌≡◌, Bool, true, false, not, List, ◌++◌, eqb, ltb, length, take}
 use Rattle.book.specs.Missing.{Fault}
 use Rattle.std.specs.Prelude.{None, Some}
-use Rattle.book.specs.declared.Refusal.{Refusal}
-use Rattle.book.specs.declared.Refusal.TheVariants.{Passed, Refused}
+use Rattle.book.specs.Outcome.{Refusal, Passed, Refused}
 use Rattle.book.specs.Numbers.{max_book_bytes}
 use Rattle.book.specs.Control.{when◌then◌else◌, both, either}
 use Rattle.book.specs.Refusals.{order_fault, count_fault, range_fault, name_fault, or_refuse}
 use Rattle.writing.specs.declared.entries.Entry.{Entry}
 use Rattle.writing.specs.declared.laying.Pen.{Pen}
-use Rattle.rows.specs.Rows.{BookTables, Row, rows, bytes_of, total, shape_row_in, cell_row_in, block_row_in, step_row_in, shape_row, cell_row, step_row, rows_from, block_rows, packed_rows}
+use Rattle.rows.specs.Rows.{BookTables, Row, rows, bytes_of, total, block_row_in, step_row_in, step_row, rows_from, block_rows, packed_rows}
 use Rattle.rows.specs.Write.{unknown_fault, spare_fault, earlier}
 
 -- the first bytes of an entry are the row's record
@@ -63,13 +63,11 @@ pub record Lays (rs : List Row) (before : List ℕ) (p : Pen) (after : List ℕ)
   pub on : (all rest : List Row) → Laid all (rs ++ rest) before p → Laid all rest after q
   pub long : length after ≡ length before
 
--- n rows of a table from the i-th on
-unfoldable pub shapes_laid : List ℕ → ℕ → ℕ → List Row
-shapes_laid t n i = rows_from (λ i. shape_row (shape_row_in t (i * 3))) n i
+-- n rows are laid by the entries that a relation gives, one for each index, whatever rows they stand for
+pub record LaysEach (gives : ℕ → Entry → Type 0) (n : ℕ) (before : List ℕ) (p : Pen) (after : List ℕ) (q : Pen) : Type 0 where
+  pub laid : (f : ℕ → Row) → ((i : ℕ) (e : Entry) → i < n → gives i e → Enters e (f i)) → Lays (rows_from f n 0) before p after q
 
-unfoldable pub cells_laid : List ℕ → ℕ → ℕ → List Row
-cells_laid t n i = rows_from (λ i. cell_row (cell_row_in t (i * 7))) n i
-
+-- n step rows from the i-th on
 unfoldable pub steps_laid : List ℕ → ℕ → ℕ → List Row
 steps_laid t n i = rows_from (λ i. step_row (step_row_in t (i * 8))) n i
 

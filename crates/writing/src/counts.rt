@@ -6,17 +6,13 @@ ghost use Rattle.rows.specs.Rows.{block_rows_in, total};
 pub fn agree(blocks: &[u8], steps: usize) -> bool
     ensures { result ≡ eqb (total (block_rows_in blocks.now)) steps }
 {
-    let n = blocks.len() / rows::BLOCK_ROW;
     let mut left = steps;
-    let mut i: usize = 0;
-    while i < n {
-        let count = records::number(blocks, i * rows::BLOCK_ROW + 1);
-        let count = count as usize;
+    for i in 0..blocks.len() / rows::BLOCK_ROW {
+        let count = records::number(blocks, i * rows::BLOCK_ROW + 1) as usize;
         if left < count {
             return false;
         }
-        left = left - count;
-        i = i + 1;
+        left -= count;
     }
     left == 0
 }

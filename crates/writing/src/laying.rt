@@ -1,14 +1,15 @@
 // The rows laid one after the other into a draft. A draft has 8 bytes more than may count, so that each row is laid as 8 bytes; what a row has
 // more than its length is laid over by the next.
-ghost use Rattle.std.specs.Prelude.{◌≡◌, [], ◌∷◌, ◌+◌, ◌-◌, ◌/◌, ◌≤◌, min, length};
+ghost use Rattle.std.specs.Prelude.{◌≡◌, ℕ, [], ◌∷◌, ◌+◌, ◌-◌, ◌/◌, ◌≤◌, ◌<◌, min, length};
 ghost use Rattle.records.specs.Copies.{put_at};
-ghost use Rattle.rows.specs.Rows.{row_of, rows, tables_in};
-ghost use Rattle.writing.specs.Asked.{noted, penned, clear_pen, Lays, shapes_laid, cells_laid, steps_laid, blocks_laid};
+ghost use Rattle.rows.specs.Rows.{row_of, rows, lent_tables};
+ghost use Rattle.writing.specs.Asked.{noted, penned, clear_pen, Lays, LaysEach, steps_laid, blocks_laid};
+ghost use Rattle.writing.specs.declared.entries.Entry.{Entry};
 
 use crate::entries;
 use crate::entries::Entry;
 use book::kind;
-use labels::Label;
+use rows::Tables;
 
 // How many bytes stand so far, the first row whose kind is none of its table's, and the first with a spare field.
 #[derive(Clone, Copy)]
@@ -21,82 +22,38 @@ pub struct Pen {
 fn note(fault: Option<usize>, bad: bool, at: usize) -> Option<usize>
     ensures { result ≡ noted fault bad at }
 {
-    match fault {
-        Some(o) => Some(o),
-        None => {
-            if bad {
-                return Some(at);
-            }
-            None
-        }
-    }
+    if bad { fault.or(Some(at)) } else { fault }
 }
 
-// Four bytes from an index on.
-fn put_four(draft: &mut [u8], at: usize, a: u8, b: u8, c: u8, d: u8)
-    requires { at + 4 ≤ length draft.old }
-    ensures { draft.new ≡ put_at draft.old at (a ∷ b ∷ c ∷ d ∷ []) }
-{
-    draft[at] = a;
-    draft[at + 1] = b;
-    draft[at + 2] = c;
-    draft[at + 3] = d;
-}
-
+// The entry's eight bytes, of which as many count as its row has.
 fn lay(draft: &mut [u8], pen: Pen, e: Entry) -> Pen
     requires { (pen.at + 8 ≤ length draft.old) × (length e.bytes ≡ 8) × (e.length ≤ 8) }
     ensures draft_after { draft.new ≡ put_at draft.old pen.at e.bytes }
     ensures value { result ≡ penned pen e }
 {
     let at = pen.at;
-    let bytes = e.bytes;
-    put_four(draft, at, bytes[0], bytes[1], bytes[2], bytes[3]);
-    put_four(draft, at + 4, bytes[4], bytes[5], bytes[6], bytes[7]);
-    let first_strange = pen.strange;
-    let strange = note(first_strange, !e.known, at);
-    let first_spare = pen.spare;
-    let spare = note(first_spare, e.spare, at);
+    records::copy_in(draft, at, &e.bytes);
     Pen {
         at: at + e.length,
-        strange: strange,
-        spare: spare,
+        strange: note(pen.strange, !e.known, at),
+        spare: note(pen.spare, e.spare, at),
     }
 }
 
-fn lay_shapes(draft: &mut [u8], start: Pen, shapes: &[u8]) -> Pen
-    requires { 8 ≤ length draft.old }
-    ensures { Lays (shapes_laid shapes.now (length shapes.now / 3) 0) draft.old start draft.new result }
+// The rows of a table, by the entry that stands for the row of an index.
+fn lay_rows<F: Fn(usize) -> Entry>(draft: &mut [u8], start: Pen, count: usize, entry: F) -> Pen
+    requires room { 8 ≤ length draft.old }
+    requires callable { (i : ℕ) → i < count → F.pre entry i }
+    requires short { (i : ℕ) (e : Entry) → i < count → F.post entry i e → e.length ≤ 8 }
+    ensures { LaysEach (F.post entry) count draft.old start draft.new result }
 {
-    let n = shapes.len() / rows::SHAPE_ROW;
     let limit = draft.len() - 8;
     let mut pen = start;
-    let mut i: usize = 0;
-    while i < n {
+    for i in 0..count {
         if limit < pen.at {
             return pen;
         }
-        let e = entries::shape_entry(shapes, i * rows::SHAPE_ROW);
-        pen = lay(draft, pen, e);
-        i = i + 1;
-    }
-    pen
-}
-
-fn lay_cells(draft: &mut [u8], start: Pen, cells: &[u8]) -> Pen
-    requires { 8 ≤ length draft.old }
-    ensures { Lays (cells_laid cells.now (length cells.now / 7) 0) draft.old start draft.new result }
-{
-    let n = cells.len() / rows::CELL_ROW;
-    let limit = draft.len() - 8;
-    let mut pen = start;
-    let mut i: usize = 0;
-    while i < n {
-        if limit < pen.at {
-            return pen;
-        }
-        let e = entries::cell_entry(cells, i * rows::CELL_ROW);
-        pen = lay(draft, pen, e);
-        i = i + 1;
+        pen = lay(draft, pen, entry(i));
     }
     pen
 }
@@ -108,32 +65,18 @@ fn lay_steps(draft: &mut [u8], start: Pen, steps: &[u8], from: usize, end: usize
 {
     let limit = draft.len() - 8;
     let mut pen = start;
-    let mut i = from;
-    while i < end {
+    for i in from..end {
         if limit < pen.at {
             return pen;
         }
         let o = i * rows::STEP_ROW;
-        let k = steps[o];
-        if k == kind::PUT {
-            let e = entries::put_entry(steps, o);
-            pen = lay(draft, pen, e);
-            i = i + 1;
+        if steps[o] == kind::PUT {
+            pen = lay(draft, pen, entries::put_entry(steps, o));
         } else {
-            let e = entries::other_entry(steps, o);
-            pen = lay(draft, pen, e);
-            i = i + 1;
+            pen = lay(draft, pen, entries::other_entry(steps, o));
         }
     }
     pen
-}
-
-// As many of the rows that are left as a block counts.
-fn counted(count: u32, left: usize) -> usize
-    ensures { result ≡ min count left }
-{
-    let n = count as usize;
-    if n < left { n } else { left }
 }
 
 // A block, and behind it the step rows from one up to another.
@@ -156,19 +99,16 @@ fn lay_blocks(draft: &mut [u8], start: Pen, blocks: &[u8], steps: &[u8]) -> Pen
     let m = steps.len() / rows::STEP_ROW;
     let limit = draft.len() - 8;
     let mut pen = start;
-    let mut i: usize = 0;
     let mut j: usize = 0;
-    while i < n {
+    for i in 0..n {
         if limit < pen.at {
             return pen;
         }
         let o = i * rows::BLOCK_ROW;
-        let bound = blocks[o];
-        let count = records::number(blocks, o + 1);
-        let end = j + counted(count, m - j);
-        pen = lay_block(draft, pen, bound, steps, j, end);
+        let count = records::number(blocks, o + 1) as usize;
+        let end = j + count.min(m - j);
+        pen = lay_block(draft, pen, blocks[o], steps, j, end);
         j = end;
-        i = i + 1;
     }
     if j == m {
         return pen;
@@ -177,26 +117,29 @@ fn lay_blocks(draft: &mut [u8], start: Pen, blocks: &[u8], steps: &[u8]) -> Pen
 }
 
 // The rows of all tables, in group order.
-pub fn lay_tables(
-    draft: &mut [u8],
-    c: Label,
-    shapes: &[u8],
-    cells: &[u8],
-    blocks: &[u8],
-    steps: &[u8],
-) -> Pen
+pub fn lay_tables(draft: &mut [u8], t: &Tables) -> Pen
     requires { 8 ≤ length draft.old }
-    ensures { Lays (rows (tables_in c shapes.now cells.now blocks.now steps.now)) draft.old clear_pen
-        draft.new result }
+    ensures { Lays (rows (lent_tables t.now)) draft.old clear_pen draft.new result }
 {
     let start = Pen {
         at: 0,
         strange: None,
         spare: None,
     };
-    let e = entries::c_entry(c);
-    let pen = lay(draft, start, e);
-    let pen = lay_shapes(draft, pen, shapes);
-    let pen = lay_cells(draft, pen, cells);
-    lay_blocks(draft, pen, blocks, steps)
+    let shapes = t.shapes;
+    let cells = t.cells;
+    let pen = lay(draft, start, entries::c_entry(t.c));
+    let pen = lay_rows(
+        draft,
+        pen,
+        shapes.len() / rows::SHAPE_ROW,
+        |i| entries::shape_entry(shapes, i * rows::SHAPE_ROW),
+    );
+    let pen = lay_rows(
+        draft,
+        pen,
+        cells.len() / rows::CELL_ROW,
+        |i| entries::cell_entry(cells, i * rows::CELL_ROW),
+    );
+    lay_blocks(draft, pen, t.blocks, t.steps)
 }

@@ -1,6 +1,5 @@
 -- Laws of the exported calls: what a callee gave stands as a variable with its equation.
---     checks, founds            what each call answers
---     check_fits, found_fits    its numbers have 32 bits
+--     check_refused, .., found_length     what each call answers; its numbers have 32 bits
 --     answers_fit               a number below 2 ^ 32 has 32 bits
 --     tells                     what is told of an offset
 -- Assumes nothing.
@@ -11,13 +10,13 @@ use native.Mathlib.Omega.{arith}
 use borrow.Author.Rules.{Fits-under}
 use mir.Val.{Fits}
 use mir.Syntax.{w32}
-use Rattle.book.specs.declared.Refusal.TheVariants.{Passed}
-use Rattle.book.specs.declared.Refusal.TheVariants as R
-use Rattle.book.specs.declared.Found.{Found}
+use Rattle.book.specs.Outcome.{Passed}
+use Rattle.book.specs.Outcome as R
+use Rattle.book.specs.Stretch.{Found}
 use Rattle.book.specs.Stretch.{found_block}
 use Rattle.book.proofs.Bounds.{found_place, found_short}
-use Rattle.typing.specs.declared.Verdict.{Verdict}
-use Rattle.typing.specs.declared.Verdict.TheVariants.{Accepted, Refused}
+use Rattle.typing.specs.Verdict.{Verdict}
+use Rattle.typing.specs.Verdict.{Accepted, Refused}
 use Rattle.typing.specs.Verdict.{verdict}
 use Rattle.typing.proofs.Bounds.{verdict_place, verdict_counts}
 use Rattle.listing.specs.declared.Fields.{Fields}
@@ -54,10 +53,6 @@ module _ (s : List ℕ) (v : Verdict) (ev : v ≡ verdict s) where
     pub check_steps : Fits w32 p
     check_steps = answers_fit p (omega (arith, verdict_counts s v ev i k b p e))
 
-pub ruleset checks = (check_refused, check_accepted)
-
-pub ruleset check_fits = (check_place, check_shapes, check_cells, check_blocks, check_steps)
-
 -- f is where the block's stretch stands
 module _ (s : List ℕ) (i : ℕ) (f : Found) (ef : f ≡ found_block s i) where
   pub found_refused : (n o : ℕ) → f.refusal ≡ R.Refused n o → record { refusal = n; place = o; start = 0; length = 0 } ≡ found (found_block s i)
@@ -77,10 +72,6 @@ module _ (s : List ℕ) (i : ℕ) (f : Found) (ef : f ≡ found_block s i) where
 
     pub found_length : Fits w32 f.length
     found_length = answers_fit f.length (omega (arith, found_short s i f ef e))
-
-pub ruleset founds = (found_refused, found_there)
-
-pub ruleset found_fits = (found_at, found_start, found_length)
 
 pub tells : (r : Told) (f g : Fields) → r ≡ fields_told f → f ≡ g → r ≡ fields_told g
 tells r f g er ef = er ∙ ap fields_told ef

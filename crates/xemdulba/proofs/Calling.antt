@@ -1,7 +1,6 @@
 -- Laws of the exported run and the exported round: what the run or the round gave stands as variables with their equation.
 --     launches                    a number as a launch label or none
---     calls, round_calls          what the call answers, and what the lent memory holds
---     call_place, round_place     the place of its refusal has 32 bits
+--     call_refused, .., round_done     what the call answers, and what the lent memory holds; the place of its refusal has 32 bits
 -- Assumes nothing.
 use mathlib.Core.Path.{◌≡◌, refl, sym, ap, ◌∙◌}
 use mathlib.Core.Bool.{Bool, true, false}
@@ -16,8 +15,7 @@ use borrow.Author.Tests.{eq-eqb, ne_eqb}
 use Rattle.labels.proofs.Impossible.{impossible}
 use Rattle.labels.specs.declared.Label.{Label}
 use Rattle.labels.specs.Labels.{is_above}
-use Rattle.book.specs.declared.Refusal.{Refusal}
-use Rattle.book.specs.declared.Refusal.TheVariants.{Passed, Refused}
+use Rattle.book.specs.Outcome.{Refusal, Passed, Refused}
 use Rattle.book.specs.Control.{both}
 use Rattle.book.specs.Book.{parse}
 use Rattle.book.specs.Refusals.{unreadable}
@@ -137,8 +135,6 @@ module _ (b : List ℕ) (k : ℕ) (u : Launch) (eu : u ≡ launch_of k) (list ce
   unfolding called ran_by
   call_done ef = rw (← eu) (simp (← e, ef))
 
-pub ruleset calls = (call_refused, call_done)
-
 -- what the round gave, likewise
 module _ (b : List ℕ) (k : ℕ) (u : Launch) (eu : u ≡ launch_of k) (cells jobs room : List ℕ) (turns : ℕ) (f : Refusal) (n m t : ℕ) (cells' jobs' room' : List ℕ)
     (e : ◌≡◌ {A = Round} (record { run = record { refusal = f; cell_count = n; job_count = m; cells = cells'; jobs = jobs'; answered = room' }; turns = t })
@@ -160,5 +156,3 @@ module _ (b : List ℕ) (k : ℕ) (u : Launch) (eu : u ≡ launch_of k) (cells j
       (round_called (rounded b (launch_of k) cells jobs room turns))
   unfolding round_called rounded_by
   round_done ef = rw (← eu) (simp (← e, ef))
-
-pub ruleset round_calls = (round_refused, round_done)

@@ -12,7 +12,7 @@ use borrow.Author.Tests.{lt-ltb, ltb-false, ne_eqb, eqb-true}
 use Rattle.labels.specs.declared.Label.{Label}
 use Rattle.labels.specs.Labels.{label}
 use Rattle.std.specs.Prelude.{None}
-use Rattle.book.specs.declared.Refusal.TheVariants.{Passed, Refused}
+use Rattle.book.specs.Outcome.{Passed, Refused}
 use Rattle.book.specs.Control.{when◌then◌else◌}
 use Rattle.book.specs.Kinds.{limits}
 use Rattle.book.specs.Records.{byte_at, records, in_group}

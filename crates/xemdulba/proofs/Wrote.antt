@@ -1,6 +1,6 @@
 -- Laws of the exported writer: what the writer gave stands as variables with their equation.
 --     labels                   a number as a label
---     writes                   what the call answers, and what the buffer holds
+--     call_refused, call_done     what the call answers, and what the buffer holds
 --     write_at, write_size     its numbers have 32 bits
 -- Assumes nothing.
 use mathlib.Core.Path.{◌≡◌, refl, sym, ap, ◌∙◌}
@@ -12,8 +12,7 @@ use mir.Val.{Fits}
 use mir.Syntax.{w32}
 use Rattle.labels.specs.declared.Label.{Label}
 use Rattle.labels.specs.Labels.{label}
-use Rattle.book.specs.declared.Refusal.{Refusal}
-use Rattle.book.specs.declared.Refusal.TheVariants.{Passed, Refused}
+use Rattle.book.specs.Outcome.{Refusal, Passed, Refused}
 use Rattle.rows.specs.Rows.{BookTables, bytes_of, tables_in}
 use Rattle.rows.specs.Write.{WriteResult, unwritable, written_of, written}
 use Rattle.rows.proofs.Placed.{write_place, write_length}
@@ -75,5 +74,3 @@ module _ (n : ℕ) (c : Label) (ec : c ≡ label_of n) (shapes cells blocks step
       → ◌≡◌ {A = WriteCall} (record { result = record { refusal = 0; place = 0; length = l }; out = out' })
       (wrote (written (tables_in (label_of n) shapes cells blocks steps) out))
   call_done ef = rw (← ec) (write_done (tables_in c shapes cells blocks steps) out f l out' e ef)
-
-pub ruleset writes = (call_refused, call_done)

@@ -9,13 +9,12 @@
 use Rattle.std.specs.Prelude.{ℕ, min, List, eqb}
 use Rattle.labels.specs.declared.Label.{Label}
 use Rattle.labels.specs.Labels.{label}
-use Rattle.book.specs.declared.Refusal.{Refusal}
-use Rattle.book.specs.declared.Refusal.TheVariants.{Passed}
-use Rattle.book.specs.declared.Refusal.TheVariants as R
-use Rattle.book.specs.declared.Found.{Found}
+use Rattle.book.specs.Outcome.{Refusal, Passed}
+use Rattle.book.specs.Outcome as R
+use Rattle.book.specs.Stretch.{Found}
 use Rattle.book.specs.Control.{when◌then◌else◌}
-use Rattle.typing.specs.declared.Verdict.{Verdict}
-use Rattle.typing.specs.declared.Verdict.TheVariants.{Accepted, Refused}
+use Rattle.typing.specs.Verdict.{Verdict}
+use Rattle.typing.specs.Verdict.{Accepted, Refused}
 use Rattle.machine.specs.Launch.{Launch}
 use Rattle.std.specs.Prelude.{None, Some}
 use Rattle.interpreter.specs.Run.{Run}

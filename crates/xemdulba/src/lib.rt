@@ -11,10 +11,9 @@ ghost use Rattle.rows.specs.Rows.{tables_in};
 ghost use Rattle.rows.specs.Write.{written};
 ghost use Rattle.xemdulba.specs.Calls.{checked, found, Call, called, RoundCall, round_called, fields_told, label_of, launch_of, WriteCall, wrote};
 
-use book::Refusal;
 use labels::Label;
 use listing::Fields;
-use typing::Verdict;
+use rows::Tables;
 
 // The verdict on a book: refusal 0 where it is accepted. On a refusal the counts are 0.
 #[repr(C)]
@@ -66,30 +65,12 @@ pub struct Told {
 pub extern "C" fn xemdulba_check(book: &[u8]) -> Checked
     ensures { result ≡ checked (verdict book.now) }
 {
-    let v = checking::check(book);
-    match v {
-        Verdict::Refused { number, place } => {
-            let n = number as u32;
-            let o = place as u32;
-            Checked {
-                refusal: n,
-                place: o,
-                shapes: 0,
-                cells: 0,
-                blocks: 0,
-                steps: 0,
-            }
-        }
-        Verdict::Accepted {
-            shapes,
-            cells,
-            blocks,
-            steps,
-        } => {
-            let i = shapes as u32;
-            let k = cells as u32;
-            let b = blocks as u32;
-            let p = steps as u32;
+    match checking::check(book) {
+        Ok(counts) => {
+            let i = counts.shapes as u32;
+            let k = counts.cells as u32;
+            let b = counts.blocks as u32;
+            let p = counts.steps as u32;
             Checked {
                 refusal: 0,
                 place: 0,
@@ -97,6 +78,17 @@ pub extern "C" fn xemdulba_check(book: &[u8]) -> Checked
                 cells: k,
                 blocks: b,
                 steps: p,
+            }
+        }
+        Err(e) => {
+            let n = e.why.number() as u32;
+            Checked {
+                refusal: n,
+                place: e.place as u32,
+                shapes: 0,
+                cells: 0,
+                blocks: 0,
+                steps: 0,
             }
         }
     }
@@ -107,20 +99,8 @@ pub extern "C" fn xemdulba_check(book: &[u8]) -> Checked
 pub extern "C" fn xemdulba_block(book: &[u8], block: u32) -> Stretch
     ensures { result ≡ found (found_block book.now block) }
 {
-    let f = reading::find_block(book, block as usize);
-    let refusal = f.refusal;
-    match refusal {
-        Refusal::Refused { number, place } => {
-            let by = number as u32;
-            let at = place as u32;
-            Stretch {
-                refusal: by,
-                place: at,
-                start: 0,
-                length: 0,
-            }
-        }
-        Refusal::Passed => {
+    match reading::find_block(book, block as usize) {
+        Ok(f) => {
             let start = f.start as u32;
             let length = f.length as u32;
             Stretch {
@@ -128,6 +108,15 @@ pub extern "C" fn xemdulba_block(book: &[u8], block: u32) -> Stretch
                 place: 0,
                 start: start,
                 length: length,
+            }
+        }
+        Err(e) => {
+            let by = e.why.number() as u32;
+            Stretch {
+                refusal: by,
+                place: e.place as u32,
+                start: 0,
+                length: 0,
             }
         }
     }
@@ -170,27 +159,24 @@ pub extern "C" fn xemdulba_run(
         (called (ran book.now (launch_of launch) list.now cells.old jobs.old answers.old)) }
 {
     let given = launch_of(launch);
-    let run = running::run(book, given, list, cells, jobs, answers);
-    let refusal = run.refusal;
-    match refusal {
-        Refusal::Refused { number, place } => {
-            let code = number as u32;
-            let offset = place as u32;
-            Ran {
-                refusal: code,
-                place: offset,
-                cells: 0,
-                jobs: 0,
-            }
-        }
-        Refusal::Passed => {
-            let held = run.cells as u32;
-            let begun = run.jobs as u32;
+    match running::run(book, given, list, cells, jobs, answers) {
+        Ok(used) => {
+            let held = used.cells as u32;
+            let begun = used.jobs as u32;
             Ran {
                 refusal: 0,
                 place: 0,
                 cells: held,
                 jobs: begun,
+            }
+        }
+        Err(e) => {
+            let code = e.why.number() as u32;
+            Ran {
+                refusal: code,
+                place: e.place as u32,
+                cells: 0,
+                jobs: 0,
             }
         }
     }
@@ -221,30 +207,27 @@ pub extern "C" fn xemdulba_round(
         (round_called (rounded book.now (launch_of launch) cells.old jobs.old answers.old turns)) }
 {
     let given = launch_of(launch);
-    let round = rounds::round(book, given, cells, jobs, answers, turns as usize);
-    let refusal = round.refusal;
-    match refusal {
-        Refusal::Refused { number, place } => {
-            let ground = number as u32;
-            let point = place as u32;
-            Rounded {
-                refusal: ground,
-                place: point,
-                cells: 0,
-                jobs: 0,
-                turns: 0,
-            }
-        }
-        Refusal::Passed => {
-            let kept = round.cells as u32;
-            let stepped = round.jobs as u32;
-            let used = round.turns as u32;
+    match rounds::round(book, given, cells, jobs, answers, turns as usize) {
+        Ok(spent) => {
+            let kept = spent.cells as u32;
+            let stepped = spent.jobs as u32;
+            let used = spent.turns as u32;
             Rounded {
                 refusal: 0,
                 place: 0,
                 cells: kept,
                 jobs: stepped,
                 turns: used,
+            }
+        }
+        Err(e) => {
+            let ground = e.why.number() as u32;
+            Rounded {
+                refusal: ground,
+                place: e.place as u32,
+                cells: 0,
+                jobs: 0,
+                turns: 0,
             }
         }
     }
@@ -272,25 +255,28 @@ pub extern "C" fn xemdulba_write(
     ensures { ◌≡◌ {A = WriteCall} (record { result = result; out = out.new })
         (wrote (written (tables_in (label_of c) shapes.now cells.now blocks.now steps.now) out.old)) }
 {
-    let label = label_of(c);
-    let w = writing::write(label, shapes, cells, blocks, steps, out);
-    let refusal = w.refusal;
-    match refusal {
-        Refusal::Refused { number, place } => {
-            let cause = number as u32;
-            let spot = place as u32;
-            Written {
-                refusal: cause,
-                place: spot,
-                length: 0,
-            }
-        }
-        Refusal::Passed => {
-            let size = w.length as u32;
+    let t = Tables {
+        c: label_of(c),
+        shapes,
+        cells,
+        blocks,
+        steps,
+    };
+    match writing::write(&t, out) {
+        Ok(length) => {
+            let size = length as u32;
             Written {
                 refusal: 0,
                 place: 0,
                 length: size,
+            }
+        }
+        Err(e) => {
+            let cause = e.why.number() as u32;
+            Written {
+                refusal: cause,
+                place: e.place as u32,
+                length: 0,
             }
         }
     }

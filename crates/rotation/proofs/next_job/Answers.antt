@@ -44,31 +44,27 @@ module _ (f : ℕ → Bool) (m : ℕ) (x : JobFound) where
   past_behind b i l s = let q : zero ≡ b - i = omega arith in ap (λ (k : ℕ). scan f m k i) q ∙ s
 
 pub loop-at-init : goal.loop-at-init
-loop-at-init c = (omega arith, all_ahead _ c.args.count c.args.from c.requires.0)
+loop-at-init c = all_ahead _ c.args.count c.args.from c.requires.0
 
 pub returns-then-jobs-at-gt0 : goal.returns-then-jobs-at-gt0
 returns-then-jobs-at-gt0 c =
-    hit_ahead (is_pending c.args.jobs.now) _ _ c.args.from _ c.loop-at-test.true c.loop-at.invariant.1 (lt-ltb 0 _ c.if-jobs-at-gt0.true)
+    hit_ahead (is_pending c.args.jobs.now) _ _ c.args.from _ c.loop-at-test.true c.loop-at.invariant (lt-ltb 0 _ c.if-jobs-at-gt0.true)
 
 pub loop-at-preserved : goal.loop-at-preserved
-loop-at-preserved c = (
-  omega arith,
-  miss_ahead (is_pending c.args.jobs.now) _ _ c.args.from _ c.loop-at-test.true c.loop-at.invariant.1 (le-ltb 0 _ c.if-jobs-at-gt0.false),
-)
+loop-at-preserved c =
+    miss_ahead (is_pending c.args.jobs.now) _ _ c.args.from _ c.loop-at-test.true c.loop-at.invariant (le-ltb 0 _ c.if-jobs-at-gt0.false)
 
 pub loop-at-2-init : goal.loop-at-2-init
-loop-at-2-init c = (omega arith, past_ahead (is_pending c.args.jobs.now) _ _ c.args.from _ c.loop-at-test.false c.loop-at.invariant.1)
+loop-at-2-init c = past_ahead (is_pending c.args.jobs.now) _ _ c.args.from _ c.loop-at-test.false c.loop-at.invariant
 
 pub returns-then-jobs-at-gt0-2 : goal.returns-then-jobs-at-gt0-2
 returns-then-jobs-at-gt0-2 c =
-    hit_behind (is_pending c.args.jobs.now) c.args.count _ c.args.from _ c.loop-at-2-test.true c.loop-at-2.invariant.1 (lt-ltb 0 _ c.if-jobs-at-gt0-2.true)
+    hit_behind (is_pending c.args.jobs.now) c.args.count _ c.args.from _ c.loop-at-2-test.true c.loop-at-2.invariant (lt-ltb 0 _ c.if-jobs-at-gt0-2.true)
 
 pub loop-at-2-preserved : goal.loop-at-2-preserved
-loop-at-2-preserved c = (
-  omega arith,
-  miss_behind (is_pending c.args.jobs.now) c.args.count _ c.args.from _ c.loop-at-2-test.true c.requires.0 c.loop-at-2.invariant.1
-      (le-ltb 0 _ c.if-jobs-at-gt0-2.false),
-)
+loop-at-2-preserved c =
+    miss_behind (is_pending c.args.jobs.now) c.args.count _ c.args.from _ c.loop-at-2-test.true c.requires.0 c.loop-at-2.invariant
+    (le-ltb 0 _ c.if-jobs-at-gt0-2.false)
 
 pub returns : goal.returns
-returns c = past_behind (is_pending c.args.jobs.now) c.args.count _ c.args.from _ c.loop-at-2-test.false c.loop-at-2.invariant.1
+returns c = past_behind (is_pending c.args.jobs.now) c.args.count _ c.args.from _ c.loop-at-2-test.false c.loop-at-2.invariant

@@ -70,7 +70,7 @@ Looked = tie.After-cell-1 InvLoop μ_loop InvLoop2 μ_loop2
 abbrev pub stepping : Looked → SomeTurn
 stepping p =
     let turn = p in
-    let s = chosen p.before.before.before.before.before.before.before.before.before.before in
+    let s = chosen p.before.before.before.before.before.before.before.before in
     record {
       of = s;
       d = _;
