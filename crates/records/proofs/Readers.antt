@@ -1,6 +1,7 @@
 -- What a reader of a book gives.
 --     reads_end                  no record is left
 --     reads_last, reads_on       the record at hand, and those behind it, by where it ends: none behind one that is cut
+--     past_last, past_on         where the reader stands then
 --     goes_on                    they are fewer
 --     serves_reads, first_read   of `find`: each record that it asks its test of is inside the book, and it gives the first that passes
 -- Assumes nothing.
@@ -11,7 +12,7 @@ use Prim.Native.Nat.{ℕ, ◌≤◌, ◌<◌}
 use native.Mathlib.Omega.{arith}
 use lib.Dec.{ltb}
 use lib.ListN.{length}
-use borrow.Author.Tests.{ltb-true, ltb-false}
+use borrow.Author.Tests.{ltb-true, ltb-false, eq-eqb, ne_eqb}
 use denote.Param.Members.{Mut}
 use denote.Ref.{Bor}
 use Rattle.std.specs.Prelude.{⊤, Option, None, Some}
@@ -24,7 +25,7 @@ use Rattle.std.proofs.lemmas.Iterator.Consumers.{YieldsList-from_shown}
 use Rattle.std.proofs.lemmas.Iterator.Search.{find_from_yields_List}
 use Rattle.book.specs.Control.{sweep, first}
 use Rattle.records.specs.declared.reader.Reader.{Reader}
-use Rattle.records.specs.Readers.{reader_at, records_left, ReadsOn}
+use Rattle.records.specs.Readers.{reader_at, records_left, read_past, ReadsOn}
 use Rattle.book.specs.Kinds.{span}
 use Rattle.book.specs.Records.{next, records_from}
 use Rattle.book.proofs.Spans.{cut_kind, cut_body, uncut, offsets_end, offsets_cut, offsets_more}
@@ -34,8 +35,8 @@ module _ (s : List ℕ) (o : ℕ) where
   reads_end h = offsets_end span s o h
 
   module _ (h : o < length s) (e : ℕ) (en : e ≡ next s o) where
-    pub reads_last : e ≡ o → records_from s o ≡ o ∷ records_from s (length s)
-    reads_last q = rw (offsets_end span s (length s) (omega arith)) (offsets_cut span s o h (cut_kind span s o (omega arith)))
+    pub reads_last : e ≡ o → (p : ℕ) → length s ≤ p → records_from s o ≡ o ∷ records_from s p
+    reads_last q p b = rw (offsets_end span s p b) (offsets_cut span s o h (cut_kind span s o (omega arith)))
 
     pub reads_on : (e ≡ o → ⊥) → records_from s o ≡ o ∷ records_from s e
     reads_on n = go (ltb (length s) e) refl
@@ -47,6 +48,13 @@ module _ (s : List ℕ) (o : ℕ) where
         go false p =
             let l : e ≤ length s = ltb-false _ _ p in
             rw en (offsets_more span s o h (uncut span s o (λ z. n (omega arith)) (omega arith)))
+
+module _ (s : List ℕ) (o e : ℕ) (en : e ≡ next s o) where
+  pub past_last : e ≡ o → length s ≡ read_past s o
+  past_last q = simp (eq-eqb (next s o) o (sym en ∙ q))
+
+  pub past_on : (e ≡ o → ⊥) → e ≡ read_past s o
+  past_on n = simp (ne_eqb (next s o) o (λ z. n (en ∙ z))) en
 
 pub goes_on : (s t : Reader) (o : ℕ) → records_left s ≡ o ∷ records_left t → MakesProgress (λ _. ⊤) (item_count records_left) s (Some o) t
 goes_on s t o e =
