@@ -29,6 +29,7 @@ pub fn refuse_memory(count: usize, cells: usize, jobs: usize, room: usize) -> Re
 }
 
 // Refuses a launch label that is given: above block 0's bound.
+#[tactic(auto, using(crate::proofs::Refusing::launches))]
 pub fn refuse_launch(bound: Label, launch: Option<Label>) -> Result<(), Refused>
     ensures { outcome result ≡ unlaunched bound launch }
 {

@@ -162,6 +162,8 @@ module _ (q : Given (Unit {0})) (s out : List ℕ) where
     unfolding roomed written_of
     deliver_done out' l f = let z : 0 + length s ≡ length s = omega arith in rw (p, f, le-ltb (length out) (length s) l, z) refl
 
+pub ruleset delivers = (deliver_refused, deliver_short, deliver_done)
+
 -- 13 after 6
 room_last : (e : Bool) (u a b c d : Fault) (size room : ℕ)
     → (when not e then Refused 2 0

@@ -93,6 +93,7 @@ fn copy_long(dst: &mut [u8], at: usize, src: &[u8])
 }
 
 // The draft into the buffer, if it is not refused and fits.
+#[tactic(auto, using(crate::proofs::Judged::delivers))]
 fn deliver(refusal: Result<(), Refused>, draft: &[u8], out: &mut [u8]) -> Result<usize, Refused>
     ensures { write_by result out.new
         ≡ written_of (roomed (outcome refusal) (length draft.now) (length out.old)) draft.now out.old }

@@ -1,6 +1,5 @@
 -- `with_spare` meets its contract. Assumes nothing.
 use mathlib.Core.Path.{◌≡◌, sym, ap, ◌∙◌}
-use Prim.Native.Nat.{ℕ, ◌≤◌, ◌<◌}
 use Rattle.book.specs.Outcome.{Refused, ground_number, outcome}
 use Rattle.writing.proofs.Judged.{join_none, join_passed, join_before, join_behind, by_five}
 use Rattle.writing.proofs.with_spare.Goals as goal
