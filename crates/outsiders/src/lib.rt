@@ -9,7 +9,7 @@ ghost use Rattle.acts.specs.Views.{stored_of, nearby, effect_of};
 ghost use Rattle.outsiders.specs.Outside.{low_cell_shape, such_value, such, aimed_at, outside};
 
 use acts::{Act, Actor, Near, Stored};
-use book::{kind, limit};
+use book::{kind, value_kind};
 use labels::Label;
 use machine::Event;
 
@@ -23,11 +23,16 @@ fn is_low_cell_shape(c: Label, shapes: &[u8], i: u8) -> bool
 }
 
 // A value of this kind that names nothing, or what exists.
-#[tactic(auto, unfolding(crate::specs::Outside::such_value, book::specs::Control::both))]
+#[tactic(auto, unfolding(crate::specs::Outside::such_value, book::specs::Control::both, book::specs::Book::value_of, book::specs::Refusals::value_named))]
 fn is_such_value(cells: usize, blocks: usize, kind: u8, number: u32) -> bool
     ensures { result ≡ such_value cells blocks kind number }
 {
-    kind <= limit::VALUE_KIND && decode::value_named(decode::value_of(kind, number), cells, blocks)
+    match kind {
+        value_kind::PLAIN => true,
+        value_kind::CELL => (number as usize) < cells,
+        value_kind::CODE => (number as usize) < blocks,
+        _ => false,
+    }
 }
 
 fn is_label(o: Label) -> bool
