@@ -1,7 +1,8 @@
 // The event list: its scan, by refusal 9, and the event at an offset.
 #![tactic(auto)]
 
-ghost use Rattle.std.specs.Prelude.{◌≡◌, ◌<◌, ◌≤◌, length};
+ghost use Rattle.std.specs.Prelude.{◌≡◌, ◌+◌, ◌<◌, ◌≤◌, length};
+ghost use Rattle.book.specs.Records.{byte_at, number_at};
 ghost use Rattle.events.specs.Asked.{Steps};
 ghost use Rattle.events.specs.Bytes.{event_span, next_event, event_cut, event_at, scan_by, scanned};
 
@@ -67,25 +68,37 @@ pub fn next_event(list: &[u8], o: usize) -> usize
     o + w as usize
 }
 
-// The event at an offset. A step is asked for first: most events are steps.
+// The event at an offset, by the three bytes and the number behind its kind: both ways of `event_at` end here, each in a copy of its own.
+#[tactic(auto, using(crate::proofs::Scans::says))]
+fn event_of(list: &[u8], o: usize, x: u8, y: u8, z: u8, n: u32) -> Event
+    requires { (o < length list.now) × (x ≡ byte_at list.now (o + 1)) × (y ≡ byte_at list.now (o + 2)) × (z ≡ byte_at list.now (o + 3)) × (n ≡ number_at list.now (o + 4)) }
+    ensures { result ≡ event_at list.now o }
+{
+    match list[o] {
+        kind::STEP => Event::StepOf(x),
+        kind::WRITE => Event::WriteBy(Label(x), y, z, n),
+        kind::RELABEL => Event::RelabelBy(Label(x), y, Label(z)),
+        kind::NEW => Event::NewBy(Label(x), y, z, n),
+        kind::EXEC => Event::ExecBy(Label(x), y),
+        _ => Event::StartBy(Label(x), y),
+    }
+}
+
+// The event at an offset. Where 8 bytes stand, one test serves them all; what lies past the end is 0.
 pub fn event_at(list: &[u8], o: usize) -> Event
     requires { o < length list.now }
     ensures { result ≡ event_at list.now o }
 {
-    let k = list[o];
-    let x = records::byte(list, o + 1);
-    if k == kind::STEP {
-        return Event::StepOf(x);
+    if o + 8 <= list.len() {
+        let x = list[o + 1];
+        let y = list[o + 2];
+        let z = list[o + 3];
+        return event_of(list, o, x, y, z, records::number(list, o + 4));
     }
+    let x = records::byte(list, o + 1);
     let y = records::byte(list, o + 2);
     let z = records::byte(list, o + 3);
-    match k {
-        kind::WRITE => Event::WriteBy(Label(x), y, z, records::number(list, o + 4)),
-        kind::RELABEL => Event::RelabelBy(Label(x), y, Label(z)),
-        kind::NEW => Event::NewBy(Label(x), y, z, records::number(list, o + 4)),
-        kind::EXEC => Event::ExecBy(Label(x), y),
-        _ => Event::StartBy(Label(x), y),
-    }
+    event_of(list, o, x, y, z, records::number(list, o + 4))
 }
 
 // Steps that were passed over: the offset behind them, and how many they are.
