@@ -167,6 +167,10 @@ module _ {b : List ℕ} {c launch : Label} {shapes offsets starts list room_cell
           at_most = omega (arith, ep, k.further, w.at_most);
         }
 
+    -- a step's job stands in the list
+    pub playing_whole : get_or list o 0 ≡ 80 → o + 1 < length list
+    playing_whole here = let k = walk list o w.whole h in omega (arith, next_step list o here, k.inside)
+
     -- a step of job i
     module _ (here : get_or list o 0 ≡ 80) (i : ℕ) (ei : i ≡ byte_at list (o + 1)) where
       pub event : StepOf i ≡ event_at list o

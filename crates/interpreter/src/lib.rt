@@ -53,7 +53,7 @@ pub fn play(
         at = at + 1;
         let kind = list[o];
         if kind == machine::kind::STEP {
-            let i = records::byte(list, o + 1) as usize;
+            let i = list[o + 1] as usize;
             o = o + 2;
             if i < m {
                 let place = begun[i].at;

@@ -7,7 +7,7 @@ use borrow.Author.Rules.{rules}
 use Rattle.tables.proofs.Saved.{jobs_start, jobs_narrow, jobs_room, jobs_on, jobs_end}
 use Rattle.interpreter.proofs.Opened.{ready_drawn, open_listed}
 use Rattle.interpreter.proofs.Playing.{first_launched, entry_fits, playing_start, playing_small, playing_sized, playing_begun, playing_end, playing_fit, playing_entry}
-use Rattle.interpreter.proofs.Playing.{playing_few, playing_off, playing_fits, playing_falls, playing_step_falls, playing_past, playing_over, playing_none, goes_on}
+use Rattle.interpreter.proofs.Playing.{playing_few, playing_off, playing_whole, playing_fits, playing_falls, playing_step_falls, playing_past, playing_over, playing_none, goes_on}
 use Rattle.interpreter.proofs.Stepping.{step_stands, step_creates, step_gives, step_changes, step_lowers, step_launches, step_waits, step_room}
 use Rattle.interpreter.proofs.Stepping.{step_free, step_give, step_lower, step_store, step_create, step_launch}
 use Rattle.interpreter.proofs.Acting.{acting_blocked, acting_give, acting_lower, acting_store, acting_room, acting_create, acting_free, acting_launch}
@@ -35,7 +35,8 @@ play_spec =
     (λ c. search rules)
     -- a step: the job, and where its next step stands
     (λ c. let f = playing_off c.loop-o.invariant c.loop-o-test.true in search rules)
-    (λ c κs. search rules) (λ c. search rules)
+    (λ c. playing_whole c.loop-o.invariant c.loop-o-test.true c.if-kind-eq-STEP.true)
+    (λ c. search rules)
     (λ c. let f = playing_off c.loop-o.invariant c.loop-o-test.true in search rules)
     (λ c. entry_fits _ (playing_entry c.loop-o.invariant _ c.if-i-m.true))
     (λ c. let f = playing_entry c.loop-o.invariant _ c.if-i-m.true in search rules)
@@ -45,10 +46,10 @@ play_spec =
     let f = playing_fits c.loop-o.invariant c.loop-o-test.true in
     search rules)
     (λ c.
-    playing_step_falls c.loop-o.invariant c.loop-o-test.true c.if-kind-eq-STEP.true _ c.byte-i.ensures)
+    playing_step_falls c.loop-o.invariant c.loop-o-test.true c.if-kind-eq-STEP.true _ refl)
     (λ c.
     playing_over c.loop-o.invariant c.loop-o-test.true c.if-kind-eq-STEP.true _
-    c.byte-i.ensures c.if-i-m.true _ _ refl _ c.step_end-past.ensures
+    refl c.if-i-m.true _ _ refl _ c.step_end-past.ensures
     c.if-past-eq0.true)
     (λ c κs. search rules)
     -- the job, the register that names its cell, and that cell
@@ -225,9 +226,9 @@ play_spec =
     -- no such job
     (λ c. let f = playing_fits c.loop-o.invariant c.loop-o-test.true in search rules)
     (λ c.
-    playing_step_falls c.loop-o.invariant c.loop-o-test.true c.if-kind-eq-STEP.true _ c.byte-i.ensures)
+    playing_step_falls c.loop-o.invariant c.loop-o-test.true c.if-kind-eq-STEP.true _ refl)
     (λ c.
-    playing_past c.loop-o.invariant c.loop-o-test.true c.if-kind-eq-STEP.true _ c.byte-i.ensures c.if-i-m.false)
+    playing_past c.loop-o.invariant c.loop-o-test.true c.if-kind-eq-STEP.true _ refl c.if-i-m.false)
     -- an outsider's event: its cell, what it does, and the answer
     (λ c κs. search rules) (λ c κs. search rules) (λ c κs. search rules) (λ c κs. search rules) (λ c κs. search rules)
     (λ c. search rules) (λ c. search rules) (λ c κs. search rules) (λ c κs. search rules)
